@@ -1,0 +1,5 @@
+-- Laws of numbers in fixed columns.
+pub mod Laws
+pub mod Writing
+pub mod RoundTrip
+pub mod Rows

@@ -1,0 +1,3 @@
+-- Numbers in fixed columns.
+pub mod Column
+pub mod Scan

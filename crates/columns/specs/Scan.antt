@@ -1,0 +1,28 @@
+-- What the steps of reading and writing a field do. Assumes nothing.
+use mathlib.Core.Bool.{cond}
+use mathlib.Core.List.{List}
+use mathlib.Core.Option.{Option, none, some}
+use mathlib.Core.Path.{_≡_}
+use Prim.Native.Nat.{ℕ, _+_, _%_, _≤_, _<_}
+use lib.Dec.{eqb}
+use lib.ListN.{getD}
+use lib.Seq.{slice}
+use Rattle.columns.specs.Column.{number}
+use Rattle.columns.specs.declared.Digits.{Digits}
+use Rattle.columns.specs.declared.Digits.the-variants.{Value, Fault}
+
+-- The blanks from at to r are passed over: the columns from r to end hold the number that those from at do.
+pub record Skipped (s : List ℕ) (at end r : ℕ) : Type 0 where
+  pub low : at ≤ r
+  pub high : r ≤ end
+  pub same : number (slice r end s) ≡ number (slice at end s)
+  pub stop : r < end → getD s r 0 ≡ 32 → ⊥
+
+-- What each case of the digits' answer says.
+abbrev pub held : Digits → Option ℕ
+held (Value x) = some x
+held Fault = none
+
+-- One column left of the last, where x is what is left of the number.
+abbrev pub leadingByte : ℕ → ℕ
+leadingByte x = cond (eqb x 0) 32 (48 + x % 10)

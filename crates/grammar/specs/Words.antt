@@ -1,0 +1,45 @@
+-- How the code holds the rules: a number of four bytes for each variable. Assumes nothing.
+use mathlib.Core.Bool.{cond}
+use mathlib.Core.List.{List, [], _∷_}
+use Prim.Native.Nat.{ℕ, zero, suc, _+_, _-_, _*_, _/_, _%_}
+use lib.Dec.{eqb}
+use lib.ListN.{getD}
+use Rattle.grammar.specs.Rule.{Rule, absent, always, never, byte, class, call}
+
+-- The bytes of a word, the highest first.
+abbrev pub bytes : ℕ → ℕ → ℕ → ℕ → ℕ
+bytes a b c d = 16777216 * a + 65536 * b + 256 * c + d
+
+-- The word of a rule: its kind and 1, or 0 for no rule; then its operands, the variables less 1.
+abbrev pub word : Rule → ℕ
+word absent = bytes 0 0 0 0
+word always = bytes 1 0 0 0
+word never = bytes 2 0 0 0
+word (byte b) = bytes 3 b 0 0
+word (class c) = bytes 4 c 0 0
+word (call B C D) = bytes 5 (B - 1) (C - 1) (D - 1)
+
+-- The words of variables A, A + 1, .., k of them.
+unfoldable pub wordsFrom : ℕ → ℕ → (ℕ → Rule) → List ℕ
+wordsFrom zero A rule = []
+wordsFrom (suc k) A rule = word (rule A) ∷ wordsFrom k (suc A) rule
+
+-- The words of variables 1 to 256.
+abbrev pub words : (ℕ → Rule) → List ℕ
+words rule = wordsFrom 256 1 rule
+
+-- The rule of a word.
+unfoldable pub ruleFor : ℕ → Rule
+ruleFor w =
+    let kind = w / 16777216 in
+    cond (eqb kind 1) always
+    (cond (eqb kind 2) never
+    (cond (eqb kind 3) (byte (w / 65536 % 256))
+    (cond (eqb kind 4) (class (w / 65536 % 256))
+    (cond (eqb kind 5) (call (w / 65536 % 256 + 1) (w / 256 % 256 + 1) (w % 256 + 1))
+    absent))))
+
+-- The rule of variable A in a list of words.
+abbrev pub ruleIn : List ℕ → ℕ → Rule
+ruleIn ws zero = absent
+ruleIn ws (suc i) = ruleFor (getD ws i 0)
