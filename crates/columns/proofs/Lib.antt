@@ -3,3 +3,4 @@ pub mod Laws
 pub mod Writing
 pub mod RoundTrip
 pub mod Rows
+pub mod Fields

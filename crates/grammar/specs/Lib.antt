@@ -4,3 +4,5 @@ pub mod Class
 pub mod Rule
 pub mod Sheet
 pub mod Words
+pub mod Promise
+pub mod Reading

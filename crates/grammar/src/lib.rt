@@ -1,1 +1,2 @@
 // The rule sheet of a grammar.
+pub mod sheet;

@@ -1,1 +1,0 @@
-// The theory of the table walk: proofs only.

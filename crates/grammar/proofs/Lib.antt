@@ -1,0 +1,8 @@
+-- Laws of rule sheets.
+pub mod Ends
+pub mod Header
+pub mod Fitting
+pub mod RuleLine
+pub mod Words
+pub mod Progress
+pub mod Whole

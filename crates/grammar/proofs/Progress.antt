@@ -1,0 +1,131 @@
+-- What is so before each rule line is read. Assumes nothing.
+use mathlib.Core.Path.{_≡_, refl, ap, sym, _∙_}
+use mathlib.Core.Bool.{Bool, true, false, cond, not, _||_, false≢true}
+use mathlib.Core.List.{List, [], _∷_}
+use mathlib.Core.Option.{Option·getD}
+use Prim.Native.Nat.{ℕ, suc, _+_, _-_, _≤_, _<_}
+use native.Mathlib.Omega.{arith}
+use lib.Dec.{leb}
+use lib.ListN.{set}
+use borrow.Author.Tests.{ne-eqb, eq-eqb}
+use Rattle.grammar.specs.Refusal.{Checked, refused, accepted, checked}
+use Rattle.grammar.specs.Rule.{absent, within}
+use Rattle.grammar.specs.Sheet.{lines, variablesOf, variableAt, variableBefore, ruleAt, ruleWithin, malformed, variableOut, ruleOut, ruleFaults}
+use Rattle.grammar.specs.Words.{word, words}
+use Rattle.grammar.specs.Reading.{lineFound, rulesFound, Ready}
+use Rattle.grammar.proofs.Fitting.{within-bounds}
+use Rattle.grammar.proofs.Words.{words-set}
+
+-- What k lines from line n on make of the sheet.
+abbrev pub remaining : List ℕ → ℕ → ℕ → Checked (Unit {0})
+remaining s n k = checked (ruleFaults s n k) tt
+
+-- Before line n, of as many lines as count: the rules of the lines before it are stored, and it is for the lines from n on to refuse.
+pub record Progress (s : List ℕ) (count : ℕ) (stored : List ℕ) (n before : ℕ) : Type 0 where
+  pub low : 2 ≤ n
+  pub high : n ≤ count + 1
+  pub before-is : before ≡ variableBefore s n
+  pub rules-are : stored ≡ words (ruleWithin s (n - 2))
+  pub rest : remaining s n (count + 1 - n) ≡ rulesFound s
+
+-- A line that is accepted with the variable A and the word w.
+pub record Accepted (s : List ℕ) (n A w : ℕ) : Type 0 where
+  pub variable-is : A ≡ variableAt s n
+  pub variable-in : (1 ≤ A) × (A ≤ variablesOf s)
+  pub word-is : w ≡ word (Option·getD (ruleAt s n) absent)
+  pub onward : (k : ℕ) → remaining s n (suc k) ≡ remaining s (suc n) k
+
+pub not-out : (s : List ℕ) (n : ℕ) → variableOut s n ≡ false → (1 ≤ variableAt s n) × (variableAt s n ≤ variablesOf s)
+unfolding variableOut
+not-out s n e = go (within 1 (variablesOf s) (variableAt s n)) refl e
+  where
+    go : (t : Bool) → within 1 (variablesOf s) (variableAt s n) ≡ t → (not t || leb (variableAt s n) (variableBefore s n)) ≡ false
+        → (1 ≤ variableAt s n) × (variableAt s n ≤ variablesOf s)
+    go true p f = within-bounds 1 (variablesOf s) (variableAt s n) p
+    go false p f = absurd (false≢true (sym f))
+
+pub line-accepted : (s : List ℕ) (n A w : ℕ) → accepted (A ∷ w ∷ []) ≡ lineFound s n → Accepted s n A w
+unfolding lineFound checked ruleFaults
+line-accepted s n A w e = go (malformed s n) (variableOut s n) (ruleOut s n) refl refl refl e
+  where
+    go : (a b c : Bool) → malformed s n ≡ a → variableOut s n ≡ b → ruleOut s n ≡ c
+        → accepted (A ∷ w ∷ []) ≡ cond a (refused 2 n) (cond b (refused 4 n) (cond c (refused 5 n) (accepted (variableAt s n ∷ word (Option·getD (ruleAt s n) absent) ∷ []))))
+        → Accepted s n A w
+    go true b c p q r f = absurd (let z : _≡_ {A = ℕ} 0 1 = cc in omega arith)
+    go false true c p q r f = absurd (let z : _≡_ {A = ℕ} 0 1 = cc in omega arith)
+    go false false true p q r f = absurd (let z : _≡_ {A = ℕ} 0 1 = cc in omega arith)
+    go false false false p q r f =
+        let u : A ≡ variableAt s n = cc in
+        let i = not-out s n q in
+        record { variable-is = u; variable-in = (omega arith, omega arith); word-is = cc; onward = λ k. rw (p, q, r) }
+
+pub line-refused : (s : List ℕ) (n x k : ℕ) → refused x n ≡ lineFound s n → refused x n ≡ remaining s n (suc k)
+unfolding lineFound checked ruleFaults
+line-refused s n x k e = go (malformed s n) (variableOut s n) (ruleOut s n) e
+  where
+    go : (a b c : Bool)
+        → refused x n ≡ cond a (refused 2 n) (cond b (refused 4 n) (cond c (refused 5 n) (accepted (variableAt s n ∷ word (Option·getD (ruleAt s n) absent) ∷ []))))
+        → refused x n ≡ cond a (refused 2 n) (cond b (refused 4 n) (cond c (refused 5 n) (remaining s (suc n) k)))
+    go true b c f = let z : x ≡ 2 = cc in ap (λ (y : ℕ). refused y n) z
+    go false true c f = let z : x ≡ 4 = cc in ap (λ (y : ℕ). refused y n) z
+    go false false true f = let z : x ≡ 5 = cc in ap (λ (y : ℕ). refused y n) z
+    go false false false f = absurd (let z : _≡_ {A = ℕ} 0 1 = cc in omega arith)
+
+-- ---- The beginning, a step, and the end.
+
+pub begins : (s : List ℕ) (variables count : ℕ) (stored : List ℕ) → Ready s variables count stored → Progress s count stored 2 0
+unfolding rulesFound ruleWithin
+begins s variables count stored r =
+    let c = r .count-is in
+    let m = r .count-some in
+    let e : count + 1 - 2 ≡ lines s - 1 = omega arith in
+    record {
+      low = omega arith;
+      high = omega arith;
+      before-is = refl;
+      rules-are = r .blank;
+      rest = ap (λ (k : ℕ). remaining s 2 k) e;
+    }
+
+rule-here : (s : List ℕ) (k n A : ℕ) → k + 2 ≡ n → A ≡ variableAt s n → ruleWithin s (suc k) A ≡ Option·getD (ruleAt s n) absent
+unfolding ruleWithin
+rule-here s k n A e f = rw (e, eq-eqb A (variableAt s n) f)
+
+rule-other : (s : List ℕ) (k n A X : ℕ) → k + 2 ≡ n → A ≡ variableAt s n → (X ≡ A → ⊥) → ruleWithin s (suc k) X ≡ ruleWithin s k X
+unfolding ruleWithin
+rule-other s k n A X e f d = rw (e, ne-eqb X (variableAt s n) (λ q. d (q ∙ sym f)))
+
+pub goes-on : (s : List ℕ) (count : ℕ) (stored : List ℕ) (n before A w : ℕ) → variablesOf s ≤ 256 → n ≤ count → Progress s count stored n before → Accepted s n A w
+    → Progress s count (set stored (A - 1) w) (n + 1) A
+goes-on s count stored n before A w few l p a =
+    let low = p .low in
+    let k : ℕ = n - 2 in
+    let i = a .variable-in in
+    let e₁ : n + 1 - 2 ≡ suc k = omega arith in
+    let e₂ : k + 2 ≡ n = omega arith in
+    let e₃ : n + 1 - 1 ≡ n = omega arith in
+    let e₄ : n + 1 ≡ suc n = omega arith in
+    let e₅ : count + 1 - n ≡ suc (count + 1 - (n + 1)) = omega arith in
+    let not2 : n + 1 ≡ 2 → ⊥ = λ z. omega arith in
+    record {
+      low = omega arith;
+      high = omega arith;
+      before-is = a .variable-is ∙ sym (rw (ne-eqb (n + 1) 2 not2, e₃));
+      rules-are =
+          ap (λ (ws : List ℕ). set ws (A - 1) w) (p .rules-are)
+          ∙ words-set (ruleWithin s k) (ruleWithin s (suc k)) A w (omega arith) (omega arith)
+          (a .word-is ∙ ap word (sym (rule-here s k n A e₂ (a .variable-is)))) (λ X d. rule-other s k n A X e₂ (a .variable-is) d)
+          ∙ ap (λ (j : ℕ). words (ruleWithin s j)) (sym e₁);
+      rest =
+          ap (λ (j : ℕ). remaining s j (count + 1 - (n + 1))) e₄ ∙ sym (a .onward (count + 1 - (n + 1))) ∙ sym (ap (remaining s n) e₅) ∙ p .rest;
+    }
+
+pub ends : (s : List ℕ) (count : ℕ) (stored : List ℕ) (n before : ℕ) → count ≡ lines s → count < n → Progress s count stored n before
+    → (accepted tt ≡ rulesFound s) × (stored ≡ words (ruleWithin s (lines s - 1)))
+unfolding checked ruleFaults
+ends s count stored n before c l p =
+    let low = p .low in
+    let high = p .high in
+    let e : count + 1 - n ≡ 0 = omega arith in
+    let f : n - 2 ≡ lines s - 1 = omega arith in
+    (sym (ap (λ (j : ℕ). remaining s n j) e) ∙ p .rest, p .rules-are ∙ ap (λ (j : ℕ). words (ruleWithin s j)) f)

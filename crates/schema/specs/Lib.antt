@@ -1,7 +1,0 @@
--- What a grammar means on an input: the generalized TMG Recognition Schema (gTS).
-pub mod Derivation
-pub mod Reached
-pub mod Table
-pub mod Machine
-pub mod Verdict
-pub mod Handed

@@ -1,1 +1,0 @@
-// What a rule sheet means.
