@@ -1,4 +1,5 @@
 -- Laws of rule sheets.
+pub mod Refusals
 pub mod Ends
 pub mod Header
 pub mod Fitting
@@ -6,3 +7,5 @@ pub mod RuleLine
 pub mod Words
 pub mod Progress
 pub mod Whole
+pub mod Accepted
+pub mod Held

@@ -7,27 +7,12 @@ use native.Mathlib.Omega.{arith}
 use lib.Dec.{eqb, ltb}
 use lib.ListN.{length}
 use borrow.Author.Tests.{eqb-true, eqb-false, ltb-false}
-use Rattle.grammar.specs.Refusal.{Checked, refused, accepted, Fault, fault, checked}
+use Rattle.grammar.specs.Refusal.{Checked, refused, accepted, checked}
 use Rattle.grammar.specs.Rule.{within, unused}
 use Rattle.grammar.specs.Sheet.{lines, variablesOf, startOf, endmarkerOf, numberAt, grammarOf, openLine, notLines, malformed, headerOut, ruleFaults, sheetFaults, sheet}
 use Rattle.grammar.specs.Reading.{headerFound, rulesFound}
+use Rattle.grammar.proofs.Refusals.{refused-whatever, accepted-whatever}
 use Rattle.grammar.proofs.Fitting.{within-bounds}
-
--- Refusals do not depend on what would be accepted.
-pub checked-refused : {A B : Type 0} (fs : List Fault) (a : A) (b : B) {x l : ℕ} → checked fs a ≡ refused x l → checked fs b ≡ refused x l
-unfolding checked
-checked-refused [] a b e = absurd (let z : _≡_ {A = ℕ} 0 1 = cc in omega arith)
-checked-refused (fault y m true ∷ fs) a b {x} {l} e =
-    let p : y ≡ x = cc in
-    let q : m ≡ l = cc in
-    rw (p, q)
-checked-refused (fault y m false ∷ fs) a b e = checked-refused fs a b e
-
-pub checked-accepted : {A B : Type 0} (fs : List Fault) (a c : A) (b : B) → checked fs a ≡ accepted c → checked fs b ≡ accepted b
-unfolding checked
-checked-accepted [] a c b e = refl
-checked-accepted (fault y m true ∷ fs) a c b e = absurd (let z : _≡_ {A = ℕ} 0 1 = cc in omega arith)
-checked-accepted (fault y m false ∷ fs) a c b e = checked-accepted fs a c b e
 
 -- Lines that are whole.
 pub record Whole (s : List ℕ) : Type 0 where
@@ -117,12 +102,12 @@ sheet-rules s n h = rw (← n, h .formed, h .in-range)
 pub sheet-rules-refused : (s : List ℕ) {v start endmarker x l : ℕ} → false ≡ notLines s → HeaderRead s v start endmarker → refused x l ≡ rulesFound s
     → sheet s ≡ refused x l
 unfolding rulesFound
-sheet-rules-refused s n h e = sheet-rules s n h ∙ checked-refused (ruleFaults s 2 (lines s - 1)) tt (grammarOf s) (sym e)
+sheet-rules-refused s n h e = sheet-rules s n h ∙ refused-whatever (ruleFaults s 2 (lines s - 1)) tt (grammarOf s) (sym e)
 
 pub sheet-accepted : (s : List ℕ) {v start endmarker : ℕ} → false ≡ notLines s → HeaderRead s v start endmarker → accepted tt ≡ rulesFound s
     → sheet s ≡ accepted (grammarOf s)
 unfolding rulesFound
-sheet-accepted s n h e = sheet-rules s n h ∙ checked-accepted (ruleFaults s 2 (lines s - 1)) tt tt (grammarOf s) (sym e)
+sheet-accepted s n h e = sheet-rules s n h ∙ accepted-whatever (ruleFaults s 2 (lines s - 1)) tt tt (grammarOf s) (sym e)
 
 -- The three numbers of line 1 are the grammar's.
 pub header-says : (s : List ℕ) {v start endmarker : ℕ} → HeaderRead s v start endmarker

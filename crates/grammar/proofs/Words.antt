@@ -10,7 +10,7 @@ use lib.Seq.{ext-getD, getD-set-same, getD-set-other}
 use Rattle.grammar.specs.Rule.{Rule, absent}
 use Rattle.grammar.specs.Words.{word, wordsFrom, words}
 
-words-length : (k A : ℕ) (f : ℕ → Rule) → length (wordsFrom k A f) ≡ k
+pub words-length : (k A : ℕ) (f : ℕ → Rule) → length (wordsFrom k A f) ≡ k
 unfolding wordsFrom
 words-length zero A f = refl
 words-length (suc k) A f = ap suc (words-length k (suc A) f)
