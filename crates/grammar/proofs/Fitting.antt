@@ -19,6 +19,16 @@ within-bounds low high x e = go (leb low x) (leb x high) refl refl e
     go true false p q f = absurd (false≢true f)
     go true true p q f = (leb-true low x p, leb-true x high q)
 
+-- The tests of the bounds.
+pub within-low : (low high x : ℕ) → x < low → within low high x ≡ false
+within-low low high x h = rw (lt-leb low x h)
+
+pub within-high : (low high x : ℕ) → high < x → within low high x ≡ false
+within-high low high x h = rw (lt-leb x high h) (and-false (leb low x))
+
+pub within-both : (low high x : ℕ) → low ≤ x → x ≤ high → within low high x ≡ true
+within-both low high x h k = rw (le-leb low x h, le-leb x high k)
+
 -- The word of a rule that may fit.
 map-fitting : (t : Bool) (r : Rule) → Option·map word (fitting t r) ≡ cond t (some (word r)) none
 map-fitting true r = refl

@@ -1,4 +1,5 @@
 -- Laws of rule sheets.
+pub mod ClassRuns
 pub mod Refusals
 pub mod Ends
 pub mod Header
@@ -9,3 +10,4 @@ pub mod Progress
 pub mod Whole
 pub mod Accepted
 pub mod Held
+pub mod Told

@@ -9,8 +9,11 @@ use lib.ListN.{length}
 use borrow.Author.Tests.{eqb-true, eqb-false, ltb-false}
 use Rattle.grammar.specs.Refusal.{Checked, refused, accepted, checked}
 use Rattle.grammar.specs.Rule.{within, unused}
-use Rattle.grammar.specs.Sheet.{lines, variablesOf, startOf, endmarkerOf, numberAt, grammarOf, openLine, notLines, malformed, headerOut, ruleFaults, sheetFaults, sheet}
+use Rattle.grammar.specs.Sheet.{lines, variablesOf, startOf, endmarkerOf, numberAt, grammarOf, openLine, notLines, malformed, headerOut, ruleFaults, ruleWithin, sheetFaults, sheet}
+use Rattle.grammar.specs.Words.{words}
 use Rattle.grammar.specs.Reading.{headerFound, rulesFound}
+use Rattle.grammar.specs.Promise.{told, SheetPromise}
+use Rattle.grammar.specs.declared.sheet.Sheet.{Sheet}
 use Rattle.grammar.proofs.Refusals.{refused-whatever, accepted-whatever}
 use Rattle.grammar.proofs.Fitting.{within-bounds}
 
@@ -113,3 +116,12 @@ sheet-accepted s n h e = sheet-rules s n h ∙ accepted-whatever (ruleFaults s 2
 pub header-says : (s : List ℕ) {v start endmarker : ℕ} → HeaderRead s v start endmarker
     → _≡_ {A = Checked (List ℕ)} (accepted (v ∷ start ∷ endmarker ∷ [])) (accepted (variablesOf s ∷ startOf s ∷ endmarkerOf s ∷ []))
 header-says s h = rw (h .variables-are, h .start-is, h .endmarker-is)
+
+-- ---- The reader's promise, by what the sheet is.
+
+pub promise-refused : (s before after : List ℕ) (r : Sheet) (x l : ℕ) → sheet s ≡ refused x l → told r ≡ refused x l → after ≡ before → SheetPromise s before after r
+promise-refused s before after r x l e t a = record { says = rw e t; stores = rw e a }
+
+pub promise-accepted : (s before after : List ℕ) (r : Sheet) → sheet s ≡ accepted (grammarOf s) → told r ≡ accepted (variablesOf s ∷ startOf s ∷ endmarkerOf s ∷ [])
+    → after ≡ words (ruleWithin s (lines s - 1)) → SheetPromise s before after r
+promise-accepted s before after r e t a = record { says = rw e t; stores = rw e a }

@@ -13,10 +13,16 @@ abbrev pub told : Sheet → Checked (List ℕ)
 told (Read g) = accepted (g .variables ∷ g .start ∷ g .endmarker ∷ [])
 told (Refused number line) = refused number line
 
--- A refusal leaves the array as it was; an accepted sheet's rules are in it.
-abbrev pub Promised : Checked Grammar → List ℕ → List ℕ → Sheet → Type 0
-Promised (refused number line) before after r = (told r ≡ refused number line) × (after ≡ before)
-Promised (accepted g) before after r = (told r ≡ accepted (g .variables ∷ g .start ∷ g .endmarker ∷ [])) × (after ≡ words (g .rule))
+-- Line 1 of an accepted sheet, or the refusal.
+abbrev pub lineOne : Checked Grammar → Checked (List ℕ)
+lineOne (refused number line) = refused number line
+lineOne (accepted g) = accepted (g .variables ∷ g .start ∷ g .endmarker ∷ [])
 
-abbrev pub SheetPromise : List ℕ → List ℕ → List ℕ → Sheet → Type 0
-SheetPromise s before after r = Promised (sheet s) before after r
+-- The array afterwards: as it was, or with the rules of the accepted sheet.
+abbrev pub stored : Checked Grammar → List ℕ → List ℕ
+stored (refused number line) before = before
+stored (accepted g) before = words (g .rule)
+
+pub record SheetPromise (s before after : List ℕ) (r : Sheet) : Type 0 where
+  pub says : told r ≡ lineOne (sheet s)
+  pub stores : after ≡ stored (sheet s) before

@@ -1,2 +1,3 @@
 // The rule sheet of a grammar.
+pub mod class;
 pub mod sheet;
