@@ -10,7 +10,7 @@ use borrow.Author.Tests.{eqb-true}
 use Rattle.grammar.specs.Refusal.{accepted}
 use Rattle.grammar.specs.Rule.{Rule, absent, always, never, byte, class, call, within, unused, fitting, ruleOf}
 use Rattle.grammar.specs.Sheet.{Grammar, lines, isNone, variablesOf, numberAt, variableAt, ruleAt, ruleWithin, grammarOf, ruleFaults, sheetFaults, sheet}
-use Rattle.grammar.proofs.Refusals.{Clear, accepted-clear, accepted-same}
+use Rattle.grammar.proofs.Refusals.{clash, Clear, accepted-clear, accepted-same}
 use Rattle.grammar.proofs.Fitting.{within-bounds}
 use Rattle.grammar.proofs.Progress.{not-out}
 use Rattle.grammar.proofs.Whole.{Whole, lines-whole, InRange, header-in-range}
@@ -68,7 +68,7 @@ spells s g e =
 
 fitting-fits : (v : ℕ) (t : Bool) (q r : Rule) → (t ≡ true → Fits v q) → fitting t q ≡ some r → Fits v r
 fitting-fits v true q r f e = let z : q ≡ r = cc in subst (Fits v) z (f refl)
-fitting-fits v false q r f e = absurd (let z : _≡_ {A = ℕ} 0 1 = cc in omega arith)
+fitting-fits v false q r f e = absurd (clash (cc))
 
 first-true : (a b c : Bool) → (a && b && c) ≡ true → a ≡ true
 first-true true b c e = refl
@@ -105,7 +105,7 @@ rule-fits v kind x y z r e = go (eqb kind 0) (eqb kind 1) (eqb kind 2) (eqb kind
         let d = within-bounds 1 v z (a .2) in
         (b .0, b .1, c .0, c .1, d .0, d .1))
         e
-    go false false false false false e = absurd (let z : _≡_ {A = ℕ} 0 1 = cc in omega arith)
+    go false false false false false e = absurd (clash (cc))
 
 -- The rule of a variable fits, and a variable that is none of 1 to V has no rule.
 module _ (s : List ℕ) (fit : (i : ℕ) → i < lines s - 1 → LineFits s (i + 2)) where

@@ -13,6 +13,7 @@ use Rattle.grammar.specs.Rule.{absent, within}
 use Rattle.grammar.specs.Sheet.{lines, variablesOf, variableAt, variableBefore, ruleAt, ruleWithin, malformed, variableOut, ruleOut, ruleFaults}
 use Rattle.grammar.specs.Words.{word, words}
 use Rattle.grammar.specs.Reading.{lineFound, rulesFound, Ready}
+use Rattle.grammar.proofs.Refusals.{clash}
 use Rattle.grammar.proofs.Fitting.{within-bounds}
 use Rattle.grammar.proofs.Words.{words-set}
 
@@ -51,9 +52,9 @@ line-accepted s n A w e = go (malformed s n) (variableOut s n) (ruleOut s n) ref
     go : (a b c : Bool) → malformed s n ≡ a → variableOut s n ≡ b → ruleOut s n ≡ c
         → accepted (A ∷ w ∷ []) ≡ cond a (refused 2 n) (cond b (refused 4 n) (cond c (refused 5 n) (accepted (variableAt s n ∷ word (Option·getD (ruleAt s n) absent) ∷ []))))
         → Accepted s n A w
-    go true b c p q r f = absurd (let z : _≡_ {A = ℕ} 0 1 = cc in omega arith)
-    go false true c p q r f = absurd (let z : _≡_ {A = ℕ} 0 1 = cc in omega arith)
-    go false false true p q r f = absurd (let z : _≡_ {A = ℕ} 0 1 = cc in omega arith)
+    go true b c p q r f = absurd (clash (cc))
+    go false true c p q r f = absurd (clash (cc))
+    go false false true p q r f = absurd (clash (cc))
     go false false false p q r f =
         let u : A ≡ variableAt s n = cc in
         let i = not-out s n q in
@@ -69,7 +70,7 @@ line-refused s n x k e = go (malformed s n) (variableOut s n) (ruleOut s n) e
     go true b c f = let z : x ≡ 2 = cc in ap (λ (y : ℕ). refused y n) z
     go false true c f = let z : x ≡ 4 = cc in ap (λ (y : ℕ). refused y n) z
     go false false true f = let z : x ≡ 5 = cc in ap (λ (y : ℕ). refused y n) z
-    go false false false f = absurd (let z : _≡_ {A = ℕ} 0 1 = cc in omega arith)
+    go false false false f = absurd (clash (cc))
 
 -- ---- The beginning, a step, and the end.
 

@@ -18,7 +18,8 @@ First x l [] = ⊥
 First x l (fault y m true ∷ fs) = (x ≡ y) × (l ≡ m)
 First x l (fault y m false ∷ fs) = First x l fs
 
-clash : _≡_ {A = ℕ} 0 1 → ⊥
+-- Two cases that differ are never equal: `clash (cc)` where an equation says so.
+pub clash : _≡_ {A = ℕ} 0 1 → ⊥
 clash z = omega arith
 
 -- Refused with a number and a line exactly if they are those of the first fault.
@@ -53,6 +54,10 @@ pub first-then : (x l : ℕ) (fs gs : List Fault) → First x l fs → First x l
 first-then x l [] gs n = absurd n
 first-then x l (fault y m true ∷ fs) gs p = p
 first-then x l (fault y m false ∷ fs) gs p = first-then x l fs gs p
+
+pub clear-append : (fs gs : List Fault) → Clear (fs ++ gs) → Clear fs × Clear gs
+clear-append [] gs c = (tt, c)
+clear-append (fault y m h ∷ fs) gs c = let i = clear-append fs gs (c .1) in ((c .0, i .0), i .1)
 
 -- Refusals do not depend on what would be accepted.
 pub refused-whatever : {A B : Type 0} (fs : List Fault) (a : A) (b : B) {x l : ℕ} → checked fs a ≡ refused x l → checked fs b ≡ refused x l

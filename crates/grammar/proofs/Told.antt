@@ -2,10 +2,10 @@
 use mathlib.Core.Path.{_≡_, refl, ap, sym, _∙_}
 use mathlib.Core.List.{List, [], _∷_}
 use Prim.Native.Nat.{ℕ}
-use native.Mathlib.Omega.{arith}
 use Rattle.grammar.specs.Refusal.{Checked, refused, accepted}
 use Rattle.grammar.specs.Sheet.{Grammar}
 use Rattle.grammar.specs.Promise.{told, lineOne}
+use Rattle.grammar.proofs.Refusals.{clash}
 use Rattle.grammar.specs.declared.sheet.Grammar.{Grammar as Line}
 use Rattle.grammar.specs.declared.sheet.Sheet.{Sheet}
 use Rattle.grammar.specs.declared.sheet.Sheet.the-variants.{Read, Refused}
@@ -17,9 +17,6 @@ pub record Reads (o : Checked Grammar) (l : Line) : Type 0 where
   pub variables-are : grammar .variables ≡ l .variables
   pub start-is : grammar .start ≡ l .start
   pub endmarker-is : grammar .endmarker ≡ l .endmarker
-
-clash : _≡_ {A = ℕ} 0 1 → ⊥
-clash z = omega arith
 
 pub told-refused : (o : Checked Grammar) (r : Sheet) (x l : ℕ) → told r ≡ lineOne o → r ≡ Refused x l → o ≡ refused x l
 told-refused (refused y m) r x l e f = let u = ap told f in cc

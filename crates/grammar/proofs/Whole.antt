@@ -14,7 +14,7 @@ use Rattle.grammar.specs.Words.{words}
 use Rattle.grammar.specs.Reading.{headerFound, rulesFound}
 use Rattle.grammar.specs.Promise.{told, SheetPromise}
 use Rattle.grammar.specs.declared.sheet.Sheet.{Sheet}
-use Rattle.grammar.proofs.Refusals.{refused-whatever, accepted-whatever}
+use Rattle.grammar.proofs.Refusals.{clash, refused-whatever, accepted-whatever}
 use Rattle.grammar.proofs.Fitting.{within-bounds}
 
 -- Lines that are whole.
@@ -55,8 +55,8 @@ header-read s v start endmarker e = go (malformed s 1) (headerOut s) refl refl e
     go : (a b : Bool) → malformed s 1 ≡ a → headerOut s ≡ b
         → accepted (v ∷ start ∷ endmarker ∷ []) ≡ cond a (refused 2 1) (cond b (refused 3 1) (accepted (variablesOf s ∷ startOf s ∷ endmarkerOf s ∷ [])))
         → HeaderRead s v start endmarker
-    go true b p q f = absurd (let z : _≡_ {A = ℕ} 0 1 = cc in omega arith)
-    go false true p q f = absurd (let z : _≡_ {A = ℕ} 0 1 = cc in omega arith)
+    go true b p q f = absurd (clash (cc))
+    go false true p q f = absurd (clash (cc))
     go false false p q f = record { variables-are = cc; start-is = cc; endmarker-is = cc; formed = p; in-range = q }
 
 -- V is 1 to 256, and the start variable is one of them.
@@ -95,7 +95,7 @@ sheet-header-refused s x n e = rw (← n) (go (malformed s 1) (headerOut s) e)
         → cond a (refused 2 1) (cond b (refused 3 1) (checked (ruleFaults s 2 (lines s - 1)) (grammarOf s))) ≡ refused x 1
     go true b f = let z : 2 ≡ x = cc in ap (λ (y : ℕ). refused y 1) z
     go false true f = let z : 3 ≡ x = cc in ap (λ (y : ℕ). refused y 1) z
-    go false false f = absurd (let z : _≡_ {A = ℕ} 0 1 = cc in omega arith)
+    go false false f = absurd (clash (cc))
 
 sheet-rules : (s : List ℕ) {v start endmarker : ℕ} → false ≡ notLines s → HeaderRead s v start endmarker
     → sheet s ≡ checked (ruleFaults s 2 (lines s - 1)) (grammarOf s)

@@ -1,0 +1,43 @@
+-- The operands of a kind 4 rule that a word holds. Assumes nothing.
+use mathlib.Core.Bool.{Bool, true, false, cond}
+use mathlib.Core.List.{List}
+use mathlib.Core.Path.{_≡_}
+use Prim.Native.Nat.{ℕ, zero, suc, _+_, _-_, _/_, _%_}
+use native.Mathlib.Nat.{suc-ne-zero}
+use native.Mathlib.Omega.{arith}
+use lib.Dec.{eqb}
+use lib.ListN.{getD}
+use Rattle.grammar.specs.Rule.{Rule, absent, always, never, byte, class, call}
+use Rattle.grammar.specs.Words.{ruleFor, ruleIn}
+
+-- The operands B, C, D are those of the word w.
+pub record Operands (w B C D : ℕ) : Type 0 where
+  pub first : B ≡ w / 65536 % 256 + 1
+  pub second : C ≡ w / 256 % 256 + 1
+  pub third : D ≡ w % 256 + 1
+
+passed : (b : Bool) (x y R : Rule) → cond b x y ≡ R → (x ≡ R → ⊥) → y ≡ R
+passed true x y R e n = absurd (n e)
+passed false x y R e n = e
+
+operands-of : (w B C D : ℕ) → ruleFor w ≡ call B C D → Operands w B C D
+unfolding ruleFor
+operands-of w B C D e =
+    last (eqb kind 5)
+    (passed (eqb kind 4) (class _) _ _
+    (passed (eqb kind 3) (byte _) _ _
+    (passed (eqb kind 2) never _ _
+    (passed (eqb kind 1) always _ _ e (λ x. suc-ne-zero 0 (cc))) (λ x. suc-ne-zero 0 (cc))) (λ x. suc-ne-zero 0 (cc)))
+    (λ x. suc-ne-zero 0 (cc)))
+  where
+    kind : ℕ
+    kind = w / 16777216
+
+    last : (b : Bool) → cond b (call (w / 65536 % 256 + 1) (w / 256 % 256 + 1) (w % 256 + 1)) absent ≡ call B C D → Operands w B C D
+    last true e = record { first = cc; second = cc; third = cc }
+    last false e = absurd (suc-ne-zero 0 (cc))
+
+-- A rule among words that is of kind 4 has the operands of its variable's word, so they are from 1 to 256.
+pub operands : (ws : List ℕ) (A B C D : ℕ) → ruleIn ws A ≡ call B C D → Operands (getD ws (A - 1) 0) B C D
+operands ws zero B C D e = absurd (suc-ne-zero 0 (cc))
+operands ws (suc i) B C D e = let q : suc i - 1 ≡ i = omega arith in rw q (operands-of (getD ws i 0) B C D e)

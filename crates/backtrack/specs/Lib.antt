@@ -1,0 +1,3 @@
+-- The backtracking machine's call.
+pub mod Run
+pub mod Frames

@@ -1,0 +1,20 @@
+-- Why a table walk finds what derivations say: the theory of systems of deterministic calls.
+pub mod Clash
+pub mod System
+pub mod Determinism
+pub mod Chain
+pub mod Reach
+pub mod Follow
+pub mod Count
+pub mod Table
+pub mod Trail
+pub mod Invariant
+pub mod Ends
+pub mod Walk
+pub mod Ask
+pub mod Laws
+pub mod Carry
+pub mod Cells
+pub mod Links
+pub mod Numbered
+pub mod Listed

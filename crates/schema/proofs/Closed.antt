@@ -1,0 +1,67 @@
+-- A grammar whose rules call its own variables: its pairs are numbered by their cells, and call one another. Assumes nothing.
+use mathlib.Core.Bool.{Bool, true, false, cond}
+use mathlib.Core.List.{List}
+use mathlib.Core.Path.{_≡_, sym, subst}
+use Prim.Native.Nat.{ℕ, _+_, _≤_}
+use lib.Dec.{ltb, eqb}
+use lib.ListN.{length, getD}
+use Rattle.calls.proofs.Numbered.{Numbering}
+use Rattle.calls.proofs.Clash.{clash}
+use Rattle.calls.proofs.System as theory
+use Rattle.calls.proofs.System.{Means, value}
+use Rattle.grammar.specs.Class.{classOf}
+use Rattle.grammar.specs.Rule.{Rule, absent, always, never, byte, class, call}
+use Rattle.schema.specs.Derivation.{Pair, _at_, Result, success, failure, gives, calls, atEnd, actOf, act, second, Derives}
+use Rattle.schema.specs.Closed.{Variable, ClosedRule, Closed}
+use Rattle.schema.specs.Table.{cell, cells}
+use Rattle.schema.proofs.Cell.{pairOf, PairWithin, cell-below, pair-cell, cell-pair, pair-within}
+use Rattle.schema.proofs.Ends.{EndsWithin, derives-ends}
+use Rattle.schema.proofs.System.{gts, kind-calls, first-is, second-is, from-done}
+
+byte-not-calls : (p B C D : ℕ) (b m : Bool) → cond b (cond m (gives (success (p + 1))) (gives failure)) atEnd ≡ calls B C D → ⊥
+byte-not-calls p B C D true true e = clash (cc)
+byte-not-calls p B C D true false e = clash (cc)
+byte-not-calls p B C D false m e = clash (cc)
+
+-- Only a rule of kind 4 calls.
+pub calls-call : (r : Rule) (s : List ℕ) (p B C D : ℕ) → actOf r s p ≡ calls B C D → r ≡ call B C D
+unfolding actOf
+calls-call absent s p B C D e = absurd (clash (cc))
+calls-call always s p B C D e = absurd (clash (cc))
+calls-call never s p B C D e = absurd (clash (cc))
+calls-call (byte b) s p B C D e = absurd (byte-not-calls p B C D (ltb p (length s)) (eqb (getD s p 0) b) e)
+calls-call (class c) s p B C D e = absurd (byte-not-calls p B C D (ltb p (length s)) (eqb (classOf (getD s p 0)) c) e)
+calls-call (call E F G) s p B C D e = cc
+
+module _ (rule : ℕ → Rule) (s : List ℕ) (v : ℕ) (closed : Closed v rule) where
+  second-within : (C D p : ℕ) (t : Result) → Variable v C → Variable v D → p ≤ length s → EndsWithin p (length s) t → PairWithin v (length s) (second C D p t)
+  second-within C D p (success q) c d l e = record { low = c .0; high = c .1; place = e .1 }
+  second-within C D p failure c d l e = record { low = d .0; high = d .1; place = l }
+
+  first-of : (x : Pair) → PairWithin v (length s) x → gts rule s .kind x ≡ theory.Kind.calls → PairWithin v (length s) (gts rule s .first x)
+  unfolding gts
+  first-of (A at p) w q =
+      let c = kind-calls (act rule s (A at p)) q in
+      let i = closed A (c .0) (c .1) (c .2) (calls-call (rule A) s p (c .0) (c .1) (c .2) (c .3)) in
+      subst (PairWithin v (length s)) (sym (first-is rule s A p (c .3))) (record { low = i .0 .0; high = i .0 .1; place = w .place })
+
+  second-of : (x : Pair) (t : Result) → PairWithin v (length s) x → gts rule s .kind x ≡ theory.Kind.calls → Means (gts rule s) (gts rule s .first x) (value t)
+      → PairWithin v (length s) (gts rule s .second x t)
+  unfolding gts
+  second-of (A at p) t w q m =
+      let c = kind-calls (act rule s (A at p)) q in
+      let i = closed A (c .0) (c .1) (c .2) (calls-call (rule A) s p (c .0) (c .1) (c .2) (c .3)) in
+      let d = subst (λ (x : Pair). Derives rule s x t (m .0) (m .1)) (first-is rule s A p (c .3)) (from-done rule s (m .2)) in
+      subst (PairWithin v (length s)) (sym (second-is rule s A p (c .3) t))
+      (second-within (c .1) (c .2) p t (i .1) (i .2) (w .place) (derives-ends rule s (w .place) d))
+
+  -- The cells number the pairs.
+  pub numbering : Numbering (gts rule s) (cell (length s)) (pairOf (length s)) (PairWithin v (length s)) (cells v (length s))
+  numbering = record {
+    pair-number = pair-cell v (length s);
+    number-pair = λ i l. cell-pair (length s) i;
+    below = cell-below v (length s);
+    within = pair-within v (length s);
+    first-within = first-of;
+    second-within = second-of;
+  }
