@@ -1,7 +1,7 @@
 -- Following the waiting from a question: it comes to one pair, with one answer, and that is the question's. Assumes nothing.
 use mathlib.Core.Path.{_≡_, refl, sym, ap, ap₂, _∙_, subst}
 use mathlib.Core.Logic.{_⊎_, inl, inr}
-use mathlib.Core.List.{List, [], _∷_}
+use mathlib.Core.List.{List, [], _∷_, List·Memᴰ, List·Memᴰ·not-nil, List·Memᴰ·cases-cons}
 use Prim.Native.Nat.{ℕ}
 use Rattle.calls.proofs.System.{System, stuck, calls, Answer, value, halts, loops, Done, NotDone, Halt, stop, Loop}
 use Rattle.calls.proofs.Clash.{clash}
@@ -12,6 +12,16 @@ use Rattle.calls.proofs.Chain.{Calls, to-first, to-second, halt-up, cha
 abbrev pub In : {X : Type 0} → X → List X → Type 0
 In x [] = ⊥
 In x (y ∷ s) = (x ≡ y) ⊎ In x s
+
+-- It is the library's membership.
+pub mem-in : {X : Type 0} (x : X) (s : List X) → List·Memᴰ x s → In x s
+mem-in x [] m = List·Memᴰ·not-nil m
+mem-in x (y ∷ s) m = elim (List·Memᴰ·cases-cons m) [ inl e ↦ inl e | inr k ↦ inr (mem-in x s k) ]
+
+pub in-mem : {X : Type 0} (x : X) (s : List X) → In x s → List·Memᴰ x s
+in-mem x [] i = absurd i
+in-mem x (y ∷ s) (inl e) = List·Memᴰ.List·Memᴰ·head e
+in-mem x (y ∷ s) (inr i) = List·Memᴰ.List·Memᴰ·tail (in-mem x s i)
 
 module _ {X A E : Type 0} (σ : System X A E) where
   open System σ using (kind, first, second)

@@ -68,7 +68,8 @@ module _ {A E : Type 0} (σ : System ℕ A E) (N : ℕ) where
     top-in : x < N
     top-in = inv .below x (inl refl)
 
-    top-reach : Reach σ root x
+    -- The top is reached.
+    pub top-reach : Reach σ root x
     top-reach = elim (inv .only x top-in (λ b. let o = top-open in clash (cc))) [
       | inl k ↦ let h = inv .keeps x (k .0) (k .1) in let o = top-open in absurd (clash (cc))
       | inr r ↦ r

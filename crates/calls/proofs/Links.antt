@@ -18,21 +18,22 @@ view mark t x = mark (getD t x 0)
 pub put-set : {A : Type 0} (mark : ℕ → Mark A) (t : List ℕ) (x v : ℕ) → x < length t → Put (view mark t) x (mark v) (view mark (set t x v))
 put-set mark t x v l = record { there = ap mark (getD-set-same t x v 0 l); others = λ y d. ap mark (getD-set-other t x y v 0 d) }
 
--- The callers: up holds, for each pair of the trail but the last, the next one.
-pub data Linked (up : List ℕ) : List ℕ → Type 0 where
-  none : Linked up []
-  last : {x : ℕ} → Linked up (x ∷ [])
-  more : {x y : ℕ} {s : List ℕ} → getD up y 0 ≡ x → Linked up (x ∷ s) → Linked up (y ∷ x ∷ s)
+-- The callers: up holds, for each pair of the trail but the last, the name of the next one.
+pub data Linked (name : ℕ → ℕ) (up : List ℕ) : List ℕ → Type 0 where
+  none : Linked name up []
+  last : {x : ℕ} → Linked name up (x ∷ [])
+  more : {x y : ℕ} {s : List ℕ} → getD up y 0 ≡ name x → Linked name up (x ∷ s) → Linked name up (y ∷ x ∷ s)
 
 -- A store elsewhere leaves the callers,
-pub linked-set : {up : List ℕ} {s : List ℕ} (y v : ℕ) → ¬ In y s → Linked up s → Linked (set up y v) s
+linked-set : {name : ℕ → ℕ} {up : List ℕ} {s : List ℕ} (y v : ℕ) → ¬ In y s → Linked name up s → Linked name (set up y v) s
 linked-set y v n none = none
 linked-set y v n last = last
 linked-set {up = up} y v n (more {x = x} {y = z} e l) = more (getD-set-other up y z v 0 (λ r. n (inl (sym r))) ∙ e) (linked-set y v (λ i. n (inr i)) l)
 
 -- and a new top is linked to its caller.
-pub linked-push : {up : List ℕ} {s : List ℕ} {x : ℕ} (y : ℕ) → y < length up → ¬ In y (x ∷ s) → Linked up (x ∷ s) → Linked (set up y x) (y ∷ x ∷ s)
-linked-push {up = up} {x = x} y l n k = more (getD-set-same up y x 0 l) (linked-set y x n k)
+pub linked-push : {name : ℕ → ℕ} {up : List ℕ} {s : List ℕ} {x : ℕ} (y v : ℕ) → y < length up → v ≡ name x → ¬ In y (x ∷ s) → Linked name up (x ∷ s)
+    → Linked name (set up y v) (y ∷ x ∷ s)
+linked-push {up = up} {x = x} y v l e n k = more (getD-set-same up y v 0 l ∙ e) (linked-set y v n k)
 
 -- The last of the trail is the asked pair, and it stands nowhere else.
 module _ {A E : Type 0} (σ : System ℕ A E) {T : ℕ → Mark A} {root : ℕ} where
@@ -42,6 +43,7 @@ module _ {A E : Type 0} (σ : System ℕ A E) {T : ℕ → Mark A} {root : ℕ} 
   at-root {x = x} r (push {x = y} {s = s} t n l) = absurd (n (subst (λ (u : ℕ). In u (y ∷ s)) (sym r) (trail-root σ t)))
 
   -- elsewhere its caller is under it.
-  pub off-root : {x : ℕ} {s up : List ℕ} → x ≢ root → Trail σ T root (x ∷ s) → Linked up (x ∷ s) → (r : List ℕ) × (s ≡ getD up x 0 ∷ r) × Linked up s
+  pub off-root : {name : ℕ → ℕ} {x : ℕ} {s up : List ℕ} → x ≢ root → Trail σ T root (x ∷ s) → Linked name up (x ∷ s)
+      → (y : ℕ) × (r : List ℕ) × (s ≡ y ∷ r) × (getD up x 0 ≡ name y) × Linked name up s
   off-root d start k = absurd (d refl)
-  off-root d (push {s = s} t n l) (more e k) = (s, ap (λ (u : ℕ). u ∷ s) (sym e), k)
+  off-root d (push {x = y} {s = s} t n l) (more e k) = (y, s, refl, e, k)

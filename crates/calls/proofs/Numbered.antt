@@ -56,7 +56,8 @@ module _ {X A E : Type 0} {σ : System X A E} {number : X → ℕ} {pair : ℕ �
     unfolding numbered
     second-number a = ap (λ (y : X). number (second y a)) (numbering .pair-number x r)
 
-    join-number : (a c : A) → numbers .join (number x) a c ≡ join x a c
+    -- its join that of the pair.
+    pub join-number : (a c : A) → numbers .join (number x) a c ≡ join x a c
     unfolding numbered
     join-number a c = ap (λ (y : X). join y a c) (numbering .pair-number x r)
 

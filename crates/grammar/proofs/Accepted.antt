@@ -8,21 +8,12 @@ use native.Mathlib.Omega.{arith}
 use lib.Dec.{eqb}
 use borrow.Author.Tests.{eqb-true}
 use Rattle.grammar.specs.Refusal.{accepted}
-use Rattle.grammar.specs.Rule.{Rule, absent, always, never, byte, class, call, within, unused, fitting, ruleOf}
+use Rattle.grammar.specs.Rule.{Rule, absent, always, never, byte, class, call, within, unused, fitting, ruleOf, Fits}
 use Rattle.grammar.specs.Sheet.{Grammar, lines, isNone, variablesOf, numberAt, variableAt, ruleAt, ruleWithin, grammarOf, ruleFaults, sheetFaults, sheet}
 use Rattle.grammar.proofs.Refusals.{clash, Clear, accepted-clear, accepted-same}
 use Rattle.grammar.proofs.Fitting.{within-bounds}
 use Rattle.grammar.proofs.Progress.{not-out}
 use Rattle.grammar.proofs.Whole.{Whole, lines-whole, InRange, header-in-range}
-
--- A rule whose operands fit v variables.
-abbrev pub Fits : ℕ → Rule → Type 0
-Fits v absent = Unit {0}
-Fits v always = Unit {0}
-Fits v never = Unit {0}
-Fits v (byte b) = b ≤ 255
-Fits v (class c) = (1 ≤ c) × (c ≤ 6)
-Fits v (call B C D) = (1 ≤ B) × (B ≤ v) × (1 ≤ C) × (C ≤ v) × (1 ≤ D) × (D ≤ v)
 
 -- A rule line that is accepted.
 pub record LineFits (s : List ℕ) (n : ℕ) : Type 0 where

@@ -14,9 +14,9 @@ use Rattle.grammar.specs.Reading.{numbersOf, headerFound}
 use Rattle.grammar.specs.declared.sheet.Line.{Line}
 
 -- The line whose fields were read.
-pub line-read : (s : List ℕ) (line at : ℕ) (r known : Line) → at ≡ 26 * (line - 1) → numbersOf r ≡ fields 5 5 s at → r ≡ known → lineAt s line ≡ numbersOf known
+pub line-read : (s : List ℕ) (line : ℕ) {at : ℕ} {r variant : Line} → at ≡ 26 * (line - 1) → numbersOf r ≡ fields 5 5 s at → r ≡ variant → lineAt s line ≡ numbersOf variant
 unfolding lineAt
-line-read s line at r known p e f = sym (ap (fields 5 5 s) p) ∙ sym e ∙ ap numbersOf f
+line-read s line p e f = sym (ap (fields 5 5 s) p) ∙ sym e ∙ ap numbersOf f
 
 -- What a test says of a condition.
 pub fails : {r t : Bool} → r ≡ t → not r ≡ true → t ≡ false
@@ -35,11 +35,11 @@ byte-without x h = rw (le-leb 0 x (omega arith), lt-leb x 255 h)
 abbrev headerBy : (a b c d e : Bool) → List ℕ → Checked (List ℕ)
 headerBy a b c d e xs = cond (not (a && b && c && d && e)) (refused 3 1) (accepted xs)
 
-pub header-found : (s : List ℕ) (v start endmarker x y : ℕ) {a b c d e : Bool} → lineAt s 1 ≡ some (v ∷ start ∷ endmarker ∷ x ∷ y ∷ [])
+pub header-found : (s : List ℕ) {v start endmarker x y : ℕ} {a b c d e : Bool} → lineAt s 1 ≡ some (v ∷ start ∷ endmarker ∷ x ∷ y ∷ [])
     → within 1 256 v ≡ a → within 1 v start ≡ b → within 0 255 endmarker ≡ c → unused x ≡ d → unused y ≡ e
     → headerBy a b c d e (v ∷ start ∷ endmarker ∷ []) ≡ headerFound s
 unfolding headerFound checked headerOut
-header-found s v start endmarker x y line p q r t u = rw line (rw (p, q, r, t, u))
+header-found s line p q r t u = rw line (rw (p, q, r, t, u))
 
 pub malformed-header : (s : List ℕ) → lineAt s 1 ≡ none → refused 2 1 ≡ headerFound s
 unfolding headerFound checked

@@ -6,11 +6,11 @@ use native.Mathlib.Omega.{arith}
 use native.Mathlib.Decide.{decLt}
 use lib.ListN.{length, List·getD-eq-default}
 use Rattle.grammar.specs.Refusal.{accepted}
-use Rattle.grammar.specs.Rule.{Rule, absent, always, never, byte, class, call}
+use Rattle.grammar.specs.Rule.{Rule, absent, always, never, byte, class, call, Fits}
 use Rattle.grammar.specs.Sheet.{Grammar, sheet}
 use Rattle.grammar.specs.Words.{bytes, word, words, ruleFor, ruleIn}
 use Rattle.grammar.proofs.Words.{words-length, word-at}
-use Rattle.grammar.proofs.Accepted.{Fits, grammar-fits, grammar-absent, grammar-in-range}
+use Rattle.grammar.proofs.Accepted.{grammar-fits, grammar-absent, grammar-in-range}
 
 -- The bytes of a word.
 module _ (a b c d : ℕ) (lb : b ≤ 255) (lc : c ≤ 255) (ld : d ≤ 255) where

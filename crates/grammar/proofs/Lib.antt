@@ -11,3 +11,6 @@ pub mod Whole
 pub mod Accepted
 pub mod Held
 pub mod Told
+pub mod Text
+pub mod Spelled
+pub mod SheetRefusals

@@ -1,7 +1,7 @@
 -- Document 01, "The rule sheet": the kinds of rules. Assumes nothing.
 use mathlib.Core.Bool.{Bool, cond, _&&_}
 use mathlib.Core.Option.{Option, none, some}
-use Prim.Native.Nat.{ℕ}
+use Prim.Native.Nat.{ℕ, _≤_}
 use lib.Dec.{leb, eqb}
 
 -- The rule of a variable: kinds 0 to 4; "A variable with no line has no rule": absent.
@@ -30,3 +30,12 @@ ruleOf v kind x y z =
     (cond (eqb kind 3) (fitting (within 1 6 x && unused y && unused z) (class x))
     (cond (eqb kind 4) (fitting (within 1 v x && within 1 v y && within 1 v z) (call x y z))
     none))))
+
+-- The operands of a rule fit v variables: "byte 0 to 255", "class 1 to 6", "B, C, D in 1 to V".
+abbrev pub Fits : ℕ → Rule → Type 0
+Fits v absent = Unit {0}
+Fits v always = Unit {0}
+Fits v never = Unit {0}
+Fits v (byte b) = b ≤ 255
+Fits v (class c) = (1 ≤ c) × (c ≤ 6)
+Fits v (call B C D) = (1 ≤ B) × (B ≤ v) × (1 ≤ C) × (C ≤ v) × (1 ≤ D) × (D ≤ v)

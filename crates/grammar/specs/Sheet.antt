@@ -94,6 +94,16 @@ variableOut s line = not (within 1 (variablesOf s) (variableAt s line)) || leb (
 abbrev pub ruleOut : List ℕ → ℕ → Bool
 ruleOut s line = isNone (ruleAt s line)
 
+-- The condition of a refusal by its number, at a line.
+unfoldable pub condition : List ℕ → ℕ → ℕ → Bool
+condition s number line =
+    cond (eqb number 1) (notLines s)
+    (cond (eqb number 2) (malformed s line)
+    (cond (eqb number 3) (headerOut s)
+    (cond (eqb number 4) (variableOut s line)
+    (cond (eqb number 5) (ruleOut s line)
+    false))))
+
 -- ---- "Order: 1 over the sheet; line 1 for 2, 3; each next line for 2, 4, 5".
 
 -- k lines from this one on.

@@ -18,7 +18,8 @@ use Rattle.grammar.specs.Class.{classIn, classOf}
 use Rattle.grammar.specs.Refusal.{Checked, refused, accepted, Fault, fault, checked}
 use Rattle.grammar.specs.Rule.{Rule, ruleOf}
 use Rattle.grammar.specs.Sheet.{Grammar, grammarOf, lineAt, ruleWithin, openLine, notLines, headerOut, variableOut, ruleFaults, sheetFaults}
-use Rattle.schema.specs.Cases.{Case, cases, text, firstPair, Derived, judged, CaseHolds}
+use Rattle.grammar.specs.Spelling.{text}
+use Rattle.schema.specs.Cases.{Case, cases, firstPair, Derived, judged, CaseHolds}
 use Rattle.schema.specs.Derivation.{Pair, Result, Stop, Outcome, result, actOf, Has}
 use Rattle.schema.specs.Handed.{Handed, callFaults, handed, questionOf, verdictOf}
 use Rattle.schema.specs.Machine.{Ran, step, run, machine}

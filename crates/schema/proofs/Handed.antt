@@ -18,7 +18,7 @@ use Rattle.grammar.proofs.Refusals.{Clear, clear-append, accepted-clear, accept
 use Rattle.grammar.proofs.Fitting.{within-bounds}
 use Rattle.schema.proofs.Cell.{PairWithin}
 
-neither-true : (a b : Bool) → a || b ≡ false → (a ≡ false) × (b ≡ false)
+pub neither-true : (a b : Bool) → a || b ≡ false → (a ≡ false) × (b ≡ false)
 neither-true true b e = absurd (clash (cc))
 neither-true false b e = (refl, e)
 

@@ -10,6 +10,7 @@ pub mod Counted
 pub mod Walk
 pub mod Handed
 pub mod Admission
+pub mod Admitted
 pub mod SheetClosed
 pub mod Eval
 pub mod Cases

@@ -3,8 +3,9 @@ use mathlib.Core.List.{List}
 use mathlib.Core.Path.{_≡_, subst}
 use Prim.Native.Nat.{ℕ}
 use Rattle.grammar.specs.Refusal.{accepted}
+use Rattle.grammar.specs.Rule.{Fits}
 use Rattle.grammar.specs.Sheet.{Grammar, sheet}
-use Rattle.grammar.proofs.Accepted.{Fits, grammar-fits}
+use Rattle.grammar.proofs.Accepted.{grammar-fits}
 use Rattle.schema.specs.Closed.{Closed}
 
 -- The grammar of an accepted sheet calls its own variables.

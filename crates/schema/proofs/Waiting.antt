@@ -1,6 +1,5 @@
 -- The pairs reached, and the waiting, are those of the system of calls. Assumes nothing.
-use mathlib.Core.Logic.{inl, inr}
-use mathlib.Core.List.{List, [], _∷_, List·Memᴰ, List·Memᴰ·cases-cons, List·Memᴰ·not-nil}
+use mathlib.Core.List.{List}
 use mathlib.Core.Path.{_≡_, refl, sym, ap, _∙_, subst}
 use Prim.Native.Nat.{ℕ}
 use Rattle.calls.proofs.Determinism.{halt-not-done}
@@ -9,7 +8,7 @@ use Rattle.calls.proofs.System.{Answer, value, halts, loops, Done, NotDone, Mea
 use Rattle.calls.proofs.Reach as reach
 use Rattle.calls.proofs.Reach.{Reach}
 use Rattle.calls.proofs.Follow as following
-use Rattle.calls.proofs.Follow.{In}
+use Rattle.calls.proofs.Follow.{mem-in, in-mem}
 use Rattle.grammar.specs.Rule.{Rule}
 use Rattle.schema.specs.Derivation.{Pair, _at_, Result, Stop, calls, act, second, Derives, node, NoResult, Outcome}
 use Rattle.schema.specs.Reached.{Reached, itself, first-of, second-of, Waits, for-first, for-second, Follow, again, ends, onward, Named}
@@ -20,16 +19,6 @@ abbrev pub namedOf : Answer Result Stop → Pair → Pair
 namedOf (value r) z = 0 at 0
 namedOf (halts w) z = z
 namedOf loops z = z
-
--- A pair of the list, in the two ways to say it.
-met-in : (x : Pair) (met : List Pair) → List·Memᴰ x met → In x met
-met-in x [] m = List·Memᴰ·not-nil m
-met-in x (y ∷ met) m = elim (List·Memᴰ·cases-cons m) [ inl e ↦ inl e | inr k ↦ inr (met-in x met k) ]
-
-in-met : (x : Pair) (met : List Pair) → In x met → List·Memᴰ x met
-in-met x [] m = absurd m
-in-met x (y ∷ met) (inl e) = List·Memᴰ.List·Memᴰ·head e
-in-met x (y ∷ met) (inr m) = List·Memᴰ.List·Memᴰ·tail (in-met x met m)
 
 module _ (rule : ℕ → Rule) (s : List ℕ) where
   -- ---- The pairs reached.
@@ -80,9 +69,9 @@ module _ (rule : ℕ → Rule) (s : List ℕ) where
   -- Following the waiting comes to the same pair in the system.
   pub to-follow : {met : List Pair} {x z : Pair} {o : Outcome} → Follow rule s met x o z → following.Follow (gts rule s) met x (answerOf o) z
   unfolding gts
-  to-follow {met = met} {x = x} (again m) = following.again (met-in x met m)
-  to-follow {met = met} {x = x} (ends n e) = following.stops (λ m. n (in-met x met m)) (ap kindOf e)
-  to-follow {met = met} {x = x} (onward n w f) = following.onward (λ m. n (in-met x met m)) (to-waits w) (to-follow f)
+  to-follow {met = met} {x = x} (again m) = following.again (mem-in x met m)
+  to-follow {met = met} {x = x} (ends n e) = following.stops (λ m. n (in-mem x met m)) (ap kindOf e)
+  to-follow {met = met} {x = x} (onward n w f) = following.onward (λ m. n (in-mem x met m)) (to-waits w) (to-follow f)
 
   -- From a pair without a result the waiting comes to another one.
   abbrev Waiting : Pair → Pair → Type 0
@@ -105,11 +94,11 @@ module _ (rule : ℕ → Rule) (s : List ℕ) where
   from-follow : {met : List Pair} {x z : Pair} {a : Answer Result Stop} → NoResult rule s x → following.Follow (gts rule s) met x a z
       → Follow rule s met x (outcomeOf a) z
   unfolding gts
-  from-follow n (following.again {met = met} {x = x} m) = again (in-met x met m)
-  from-follow n (following.stops {met = met} {x = x} {e = w} m q) = ends (λ k. m (met-in x met k)) (kind-stuck (act rule s x) w q)
+  from-follow n (following.again {met = met} {x = x} m) = again (in-mem x met m)
+  from-follow n (following.stops {met = met} {x = x} {e = w} m q) = ends (λ k. m (mem-in x met k)) (kind-stuck (act rule s x) w q)
   from-follow n (following.onward {met = met} {x = x} {y = y} m v f) =
       let w = waiting-at x y n v in
-      onward (λ k. m (met-in x met k)) (w .0) (from-follow (w .1) f)
+      onward (λ k. m (mem-in x met k)) (w .0) (from-follow (w .1) f)
 
   -- The pair that the system names is the one that the outcome names.
   pub from-named : (x z : Pair) (a : Answer Result Stop) → Means (gts rule s) x a → following.Named (gts rule s) a x z

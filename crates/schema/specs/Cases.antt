@@ -1,13 +1,13 @@
 -- Document 01, "Marked entries": cases a to j as one list, and what it is that a case holds. Assumes nothing.
-use mathlib.Core.List.{List, [], _∷_, _++_}
+use mathlib.Core.List.{List, [], _∷_}
 use mathlib.Core.Option.{Option, none, some}
 use mathlib.Core.Path.{_≡_}
 use Prim.Native.Nat.{ℕ}
 use lib.ListN.{length}
-use Rattle.columns.specs.Column.{row}
 use Rattle.grammar.specs.Refusal.{Checked, refused, accepted}
 use Rattle.grammar.specs.Rule.{Rule}
 use Rattle.grammar.specs.Sheet.{Grammar}
+use Rattle.grammar.specs.Spelling.{text}
 use Rattle.schema.specs.Derivation.{Pair, _at_, success, failure, missing, end, Derives, Outcome, result, stopped, loop, Has}
 use Rattle.schema.specs.Handed.{handed, questionOf, verdictOf}
 use Rattle.schema.specs.Machine.{says, spent, noFrame, Ran, ran, machine}
@@ -86,11 +86,6 @@ cases =
     ∷ []
 
 -- ---- What it is that a case holds.
-
--- The bytes of a sheet.
-unfoldable pub text : List (List ℕ) → List ℕ
-text [] = []
-text (xs ∷ xss) = row 5 xs ++ text xss
 
 -- "Variable 1, place 0 throughout."
 abbrev pub firstPair : Pair

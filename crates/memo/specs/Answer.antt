@@ -1,0 +1,69 @@
+-- Document 01, "The table engine": the promise of a question. Assumes nothing.
+use mathlib.Core.List.{List}
+use mathlib.Core.Logic.{_⊎_}
+use mathlib.Core.Path.{_≡_}
+use Prim.Native.Nat.{ℕ, _≤_}
+use lib.ListN.{length, take, drop}
+use Rattle.grammar.specs.Refusal.{Checked, refused, accepted}
+use Rattle.grammar.specs.Rule.{Rule}
+use Rattle.grammar.specs.Sheet.{Grammar}
+use Rattle.schema.specs.Derivation.{Pair, _at_, success, failure, missing, end, Outcome, result, stopped, loop, Has}
+use Rattle.schema.specs.Reached.{Named}
+use Rattle.schema.specs.Closed.{Closed}
+use Rattle.schema.specs.Table.{Within, cells, decided, blanked, Table}
+use Rattle.schema.specs.Handed.{handed, questionOf}
+use Rattle.memo.specs.declared.Answer.{Answer}
+use Rattle.memo.specs.declared.Answer.the-variants.{Success, Failure, Loop, Missing, End, Refused}
+
+-- "The result carries the outcome, the named pair if any, and the count of decided (non-blank) cells". No pair is 0 at 0.
+pub data Reply : Type 0 where
+  reply : Outcome → Pair → ℕ → Reply
+
+-- What each case of the answer says.
+abbrev pub told : Answer → Checked Reply
+told (Success q count) = accepted (reply (result (success q)) (0 at 0) count)
+told (Failure count) = accepted (reply (result failure) (0 at 0) count)
+told (Loop A p count) = accepted (reply loop (A at p) count)
+told (Missing A p count) = accepted (reply (stopped missing) (A at p) count)
+told (End A p count) = accepted (reply (stopped end) (A at p) count)
+told (Refused number line) = refused number line
+
+-- The reply to a question about x, of v variables, that is not refused, with the table and the work slice before and after it.
+pub record Answers (rule : ℕ → Rule) (v : ℕ) (input : List ℕ) (x : Pair) (table table′ work work′ : List ℕ) (r : Reply) : Type 0 where
+  pub outcome : Outcome
+  pub named : Pair
+  pub has : Has rule input x outcome
+  pub names : Named rule input x outcome named
+  pub says : r ≡ reply outcome named (decided (take (cells v (length input)) table′))
+  pub leaves : Table rule input v x blanked table table′
+  -- "The work slice is left free within its first V times (n + 1) numbers and unchanged beyond."
+  pub beyond : drop (cells v (length input)) work′ ≡ drop (cells v (length input)) work
+  pub size : length work′ ≡ length work
+
+abbrev pub Says : (ℕ → Rule) → ℕ → List ℕ → Pair → List ℕ → List ℕ → List ℕ → List ℕ → Checked Reply → Type 0
+Says rule v input x table table′ work work′ r = (a : Reply) × (r ≡ accepted a) × Answers rule v input x table table′ work work′ a
+
+-- The first refusal, with both slices as they were, or an answer.
+abbrev pub Replies : Checked Grammar → List ℕ → Pair → List ℕ → List ℕ → List ℕ → List ℕ → Checked Reply → Type 0
+Replies (refused number line) input x table table′ work work′ r = (r ≡ refused number line) × (table′ ≡ table) × (work′ ≡ work)
+Replies (accepted g) input x table table′ work work′ r = Says (g .rule) (g .variables) input x table table′ work work′ r
+
+-- The promise of a question.
+abbrev pub QuestionPromise : List ℕ → List ℕ → ℕ → ℕ → List ℕ → List ℕ → List ℕ → List ℕ → Answer → Type 0
+QuestionPromise sheet input A p table table′ work work′ r =
+    Replies (handed sheet (questionOf input (A at p) (length table) (length work))) input (A at p) table table′ work work′ (told r)
+
+-- ---- What the steps of a question ask.
+
+-- A cell that holds failure or success.
+abbrev pub Code : ℕ → Type 0
+Code c = (c ≡ 1) ⊎ (5 ≤ c)
+
+-- What asking is handed, once the refusals are tested.
+pub record AskReady (rule : ℕ → Rule) (input : List ℕ) (v A p : ℕ) (table work : List ℕ) : Type 0 where
+  pub few : v ≤ 256
+  pub short : length input ≤ 4096
+  pub closed : Closed v rule
+  pub within : Within v (length input) A p
+  pub room : cells v (length input) ≤ length table
+  pub work-room : cells v (length input) ≤ length work

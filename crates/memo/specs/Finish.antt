@@ -1,0 +1,32 @@
+-- What the last step of a question does: it closes what the walk left open, and answers. Assumes nothing.
+use mathlib.Core.List.{List}
+use mathlib.Core.Logic.{_≢_}
+use mathlib.Core.Path.{_≡_}
+use Prim.Native.Nat.{ℕ, _≤_, _<_}
+use lib.ListN.{length, getD, take}
+use Rattle.grammar.specs.Refusal.{accepted}
+use Rattle.schema.specs.Table.{cells, code, decided}
+use Rattle.memo.specs.Answer.{reply, told, Code}
+use Rattle.memo.specs.Walk.{openMark, outcomeOf, namedOf, CloseReady, Closes}
+use Rattle.memo.specs.declared.Answer.{Answer}
+use Rattle.memo.specs.declared.Walk.{Walk}
+use Rattle.memo.specs.declared.Walk.the-variants as walk
+
+-- After a result no cell is open.
+pub record NothingOpen (n v c : ℕ) (T : List ℕ) : Type 0 where
+  pub few : v ≤ 256
+  pub short : n ≤ 4096
+  pub room : cells v n ≤ length T
+  pub code-is : Code c
+  pub no-open : (i : ℕ) → i < cells v n → getD T i 0 ≢ openMark
+
+abbrev pub FinishReady : ℕ → ℕ → ℕ → ℕ → List ℕ → List ℕ → Walk → Type 0
+FinishReady n v A p T W (walk.Settled c) = NothingOpen n v (c .0) T
+FinishReady n v A p T W (walk.Loop a d B q) = CloseReady n v A p B q 2 T W
+FinishReady n v A p T W (walk.Missing B q) = CloseReady n v A p B q 3 T W
+FinishReady n v A p T W (walk.End B q) = CloseReady n v A p B q 4 T W
+
+-- The open cells hold the outcome, and the answer counts the table.
+pub record Finishes (n v : ℕ) (end : Walk) (T T′ : List ℕ) (r : Answer) : Type 0 where
+  pub closes : Closes (cells v n) (code (outcomeOf end)) T T′
+  pub says : told r ≡ accepted (reply (outcomeOf end) (namedOf end) (decided (take (cells v n) T′)))

@@ -1,0 +1,4 @@
+-- The table engine: its promise, and what its steps do.
+pub mod Answer
+pub mod Walk
+pub mod Finish
