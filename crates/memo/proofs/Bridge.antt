@@ -1,5 +1,5 @@
 -- What looking at a pair finds, in the words of the theory of calls: the pair's cell number is a number of the system. Assumes nothing.
-use mathlib.Core.Path.{_≡_, refl, sym, ap, _∙_, subst}
+use mathlib.Core.Path.{_≡_, sym, ap, _∙_, subst}
 use mathlib.Core.List.{List, _∷_}
 use Prim.Native.Nat.{ℕ, _≤_}
 use lib.ListN.{length}
@@ -12,7 +12,7 @@ use Rattle.calls.proofs.Table.{Mark, settled}
 use Rattle.calls.proofs.Trail.{Link, link-first, link-second, Fits}
 use Rattle.grammar.specs.Rule.{Rule}
 use Rattle.schema.specs.Closed.{Closed}
-use Rattle.schema.specs.Derivation.{Pair, _at_, Result, Stop, Act, gives, stops, calls, act, second}
+use Rattle.schema.specs.Derivation.{Pair, _at_, Result, calls, act, second}
 use Rattle.schema.specs.Table.{cell, cells, held}
 use Rattle.schema.proofs.Answer.{gtsCells, gts-bounded}
 use Rattle.schema.proofs.Cell.{PairWithin}

@@ -1,16 +1,16 @@
 -- A blanked table with the asked pair opened is one to walk from. Assumes nothing.
-use mathlib.Core.Path.{_≡_, refl, sym, ap, _∙_, subst}
+use mathlib.Core.Path.{_≡_, sym, ap, _∙_, subst}
 use mathlib.Core.List.{List, _++_}
-use mathlib.Core.Logic.{_⊎_, inl, inr, _≢_}
+use mathlib.Core.Logic.{inl, inr}
 use Prim.Native.Nat.{ℕ, _+_, _≤_, _<_}
 use native.Mathlib.Decide.{ℕ-discrete}
 use native.Mathlib.Omega.{arith}
 use lib.ListN.{length, getD, set, drop, replicate, length-replicate, length-append, length-drop, length-set, getD-replicate, List·getD-append}
-use lib.Seq.{getD-set-same, getD-set-other, drop-set-lt, drop-at, set-set, set-getD}
+use lib.Seq.{getD-set-same, getD-set-other, drop-at, set-set, set-getD}
 use Rattle.grammar.specs.Rule.{Rule}
 use Rattle.schema.specs.Closed.{Closed}
-use Rattle.schema.specs.Derivation.{Pair, _at_, Result, success, failure}
-use Rattle.schema.specs.Table.{Within, cell, cells, held}
+use Rattle.schema.specs.Derivation.{_at_, Result, success, failure}
+use Rattle.schema.specs.Table.{Within, cell, cells}
 use Rattle.schema.proofs.Cell.{cell-below}
 use Rattle.memo.specs.Walk.{openMark, Settled, Fits, before, KeptTable, WalkReady}
 

@@ -3,19 +3,19 @@ use mathlib.Core.Path.{_≡_, refl, sym, ap, _∙_, subst}
 use mathlib.Core.Bool.{cond}
 use mathlib.Core.List.{List, [], _∷_, List·Memᴰ, List·Memᴰ·cases-cons, List·Memᴰ·not-nil}
 use mathlib.Core.Logic.{_⊎_, inl, inr, _≢_}
-use Prim.Native.Nat.{ℕ, _+_, _*_, _/_, _%_, _≤_, _<_}
+use Prim.Native.Nat.{ℕ, _/_, _%_, _<_}
 use native.Mathlib.Decide.{ℕ-discrete}
 use native.Mathlib.Omega.{arith}
 use lib.Dec.{eqb}
 use lib.ListN.{length, getD, set, drop, length-set}
 use lib.Seq.{getD-set-same, getD-set-other, drop-set-lt}
-use borrow.Author.Tests.{eq-eqb, ne-eqb}
+use borrow.Author.Tests.{ne-eqb}
 use Rattle.calls.proofs.Links.{view, put-set}
-use Rattle.calls.proofs.Table.{Mark, opened, settled, Put, cost, weight, weight-falls}
+use Rattle.calls.proofs.Table.{Mark, opened, settled, cost, weight, weight-falls}
 use Rattle.schema.specs.Derivation.{Pair, _at_, Result, failure}
 use Rattle.schema.specs.Table.{Within, cell, cells, held}
 use Rattle.schema.proofs.Cell.{pairOf, PairWithin, cell-below, cell-one, cell-pair, pair-within}
-use Rattle.memo.specs.Walk.{openMark, packed, Trail, nothing-open, only-asked, called-by, CloseReady, Closes}
+use Rattle.memo.specs.Walk.{openMark, packed, Trail, only-asked, called-by, CloseReady, Closes}
 
 -- Open, or not: what is still to be closed.
 unfoldable pub openOr : ℕ → Mark Result

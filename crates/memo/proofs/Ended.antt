@@ -5,11 +5,9 @@ use mathlib.Core.Logic.{_⊎_, inl, inr, _≢_}
 use Prim.Native.Nat.{ℕ, _-_, _≤_, _<_}
 use native.Mathlib.Omega.{arith}
 use borrow.Author.Tests.{eq-eqb, ne-eqb}
-use lib.ListN.{length, getD, set, drop, length-set}
-use lib.Seq.{drop-set-lt}
+use lib.ListN.{length, getD, set}
 use Rattle.calls.proofs.Ends.{End, end-value, end-loop, end-halt}
 use Rattle.calls.proofs.Follow.{In, mem-in, in-mem}
-use Rattle.calls.proofs.Invariant.{Inv}
 use Rattle.calls.proofs.Links.{view, Linked, none, last, more}
 use Rattle.calls.proofs.Reach.{Reach}
 use Rattle.calls.proofs.System.{Answer, value, halts, loops}
@@ -25,7 +23,7 @@ use Rattle.schema.proofs.Cell.{pairOf, PairWithin, cell-below, cell-pair, pair-
 use Rattle.schema.proofs.System as schema
 use Rattle.schema.proofs.System.{kindOf}
 use Rattle.schema.proofs.Waiting as waiting
-use Rattle.memo.specs.Walk.{openMark, Settled, Fits, Called, Given, Trail, nothing-open, only-asked, called-by, resultOf, outcomeOf, namedOf, StopsAt, SettledCode, HeldAt, WalkEnds}
+use Rattle.memo.specs.Walk.{openMark, Settled, Called, Given, Trail, nothing-open, only-asked, called-by, resultOf, outcomeOf, namedOf, StopsAt, SettledCode, HeldAt, WalkEnds}
 use Rattle.memo.specs.declared.Cell.{Cell}
 use Rattle.memo.specs.declared.Walk.{Walk}
 use Rattle.memo.specs.declared.Walk.the-variants as walk

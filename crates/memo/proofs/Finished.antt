@@ -1,21 +1,20 @@
 -- From the end of the walk to the table that a question leaves. Assumes nothing.
 use mathlib.Core.Path.{_≡_, refl, sym, ap, _∙_, subst}
 use mathlib.Core.List.{List, [], _∷_, List·Memᴰ, List·Memᴰ·not-nil}
-use mathlib.Core.Logic.{_⊎_, inl, inr, _≢_}
-use Prim.Native.Nat.{ℕ, _+_, _≤_, _<_}
-use native.Mathlib.Decide.{ℕ-discrete}
+use mathlib.Core.Logic.{inl, inr, _≢_}
+use Prim.Native.Nat.{ℕ, _≤_, _<_}
 use native.Mathlib.Omega.{arith}
 use lib.ListN.{length, getD, take, drop}
 use Rattle.grammar.specs.Rule.{Rule}
-use Rattle.schema.specs.Derivation.{Pair, _at_, Result, success, failure, Stop, missing, end, Outcome, result, stopped, loop, Has}
+use Rattle.schema.specs.Derivation.{Pair, _at_, Result, success, failure, end, result}
 use Rattle.schema.specs.Reached.{Reached}
-use Rattle.schema.specs.Table.{Within, cell, cells, code, decided, held, Holds, blanked, Table}
+use Rattle.schema.specs.Table.{Within, cell, cells, code, decided, held, Holds, blanked}
 use Rattle.schema.proofs.Cell.{pairOf, PairWithin, cell-below, cell-pair, pair-within}
 use Rattle.grammar.specs.Refusal.{accepted}
 use Rattle.memo.specs.Answer.{reply, told, Answers}
 use Rattle.memo.specs.Finish.{Finishes}
 use Rattle.memo.specs.declared.Answer.{Answer}
-use Rattle.memo.specs.Walk.{openMark, Settled, outcomeOf, namedOf, StopsAt, HeldAt, WalkEnds, CloseReady, Closes}
+use Rattle.memo.specs.Walk.{openMark, Settled, outcomeOf, namedOf, HeldAt, WalkEnds, CloseReady, Closes}
 use Rattle.memo.specs.declared.Walk.{Walk}
 
 -- Where no cell is open, there is nothing to close.

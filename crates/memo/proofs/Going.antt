@@ -2,13 +2,12 @@
 use mathlib.Core.Path.{_≡_, refl, sym, ap, _∙_, subst}
 use mathlib.Core.List.{List, [], _∷_}
 use mathlib.Core.Logic.{_⊎_, inl, inr, _≢_}
-use Prim.Native.Nat.{ℕ, _+_, _*_, _/_, _%_, _≤_, _<_}
+use Prim.Native.Nat.{ℕ, _+_, _/_, _%_, _≤_, _<_}
 use native.Mathlib.Decide.{ℕ-discrete}
 use native.Mathlib.Omega.{arith}
 use lib.ListN.{length, getD, set, drop, length-set}
 use lib.Seq.{getD-set-same, getD-set-other, drop-set-lt}
 use Rattle.calls.proofs.Clash.{clash}
-use Rattle.calls.proofs.Follow.{In}
 use Rattle.calls.proofs.Invariant.{Inv, inv-start, open-next, settle-top, link-calls, top-reach}
 use Rattle.calls.proofs.Links.{view, put-set, Linked, none, last, linked-push, at-root, off-root}
 use Rattle.calls.proofs.Reach.{Reach, itself, reach-on}

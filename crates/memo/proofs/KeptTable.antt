@@ -1,7 +1,6 @@
 -- A kept table of codes is a kept table of marks. Assumes nothing.
-use mathlib.Core.Path.{_≡_, refl, sym, ap, _∙_, subst}
+use mathlib.Core.Path.{_≡_, sym, _∙_, subst}
 use mathlib.Core.List.{List}
-use mathlib.Core.Logic.{_≢_}
 use Prim.Native.Nat.{ℕ, _≤_, _<_}
 use lib.ListN.{length, getD}
 use Rattle.calls.proofs.Invariant.{Kept}
@@ -14,10 +13,10 @@ use Rattle.calls.proofs.Trail as trail
 use Rattle.grammar.specs.Rule.{Rule}
 use Rattle.schema.specs.Closed.{Closed}
 use Rattle.schema.specs.Derivation.{Pair, _at_, Result, act, second}
-use Rattle.schema.specs.Table.{Within, cell, cells, held}
+use Rattle.schema.specs.Table.{cell, cells, held}
 use Rattle.schema.proofs.Answer.{gtsCells, means-cell}
 use Rattle.schema.proofs.Cell.{pairOf, PairWithin, cell-pair, pair-within}
-use Rattle.schema.proofs.System.{kindOf, kind-calls}
+use Rattle.schema.proofs.System.{kind-calls}
 use Rattle.memo.specs.Walk.{Settled, Fits, KeptTable}
 use Rattle.memo.proofs.Marks.{mark, stands}
 use Rattle.memo.proofs.Bridge.{cell-kind, cell-first, cell-second, settled-at}

@@ -11,4 +11,7 @@ pub mod Closing
 pub mod Finished
 pub mod Cleared
 pub mod Asked
+pub mod Ready
 pub mod Questioned
+pub mod Endmarker
+pub mod Judged

@@ -1,8 +1,8 @@
 -- What the tests of a cell say, and what the second pair's cell says of the pair that calls it. Assumes nothing.
-use mathlib.Core.Path.{_≡_, refl, sym, ap, _∙_, subst}
+use mathlib.Core.Path.{_≡_, sym, ap, _∙_, subst}
 use mathlib.Core.Logic.{inl, inr, _≢_}
 use mathlib.Core.List.{List}
-use Prim.Native.Nat.{ℕ, _+_, _-_, _≤_, _<_}
+use Prim.Native.Nat.{ℕ, _-_, _≤_, _<_}
 use native.Mathlib.Omega.{arith}
 use lib.ListN.{length, getD}
 use Rattle.grammar.specs.Rule.{Rule}
@@ -12,7 +12,7 @@ use Rattle.schema.specs.Table.{Within, cell, held}
 use Rattle.schema.proofs.Cell.{cell-below}
 use Rattle.schema.proofs.Closed.{calls-call}
 use Rattle.schema.proofs.Ends.{derives-ends}
-use Rattle.memo.specs.Walk.{openMark, Unsettled, Settled, Fits, Called, second-called, Given, by-calls, Saw, SawSecond, Walkable, LookReady}
+use Rattle.memo.specs.Walk.{openMark, Unsettled, Settled, Fits, Called, second-called, by-calls, Saw, SawSecond, Walkable, LookReady}
 use Rattle.memo.specs.declared.Look.{Look}
 use Rattle.memo.specs.declared.Look.the-variants as look
 

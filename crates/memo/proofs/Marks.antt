@@ -1,15 +1,14 @@
 -- The mark of the walk that a cell's number stands for. Assumes nothing.
 use mathlib.Core.Path.{_≡_, refl, subst}
 use mathlib.Core.Bool.{Bool, true, false, cond}
-use mathlib.Core.Logic.{inl, inr, _≢_}
-use Prim.Native.Nat.{ℕ, _+_, _-_, _≤_, _<_}
+use mathlib.Core.Logic.{inl, inr}
+use Prim.Native.Nat.{ℕ, _-_, _≤_}
 use native.Mathlib.Omega.{arith}
 use lib.Dec.{eqb, ltb}
 use borrow.Author.Tests.{eqb-true, eqb-false, eq-eqb, ne-eqb, ltb-true, ltb-false, lt-ltb, le-ltb}
-use Rattle.calls.proofs.Clash.{clash}
 use Rattle.calls.proofs.Table.{Mark, blank, opened, settled}
 use Rattle.schema.specs.Derivation.{Result, success, failure}
-use Rattle.memo.specs.Walk.{openMark, Unsettled, Ends, Settled, Fits}
+use Rattle.memo.specs.Walk.{openMark, Unsettled, Settled, Fits}
 
 -- Open, failure, success, or still to be walked.
 unfoldable pub mark : ℕ → Mark Result

@@ -1,28 +1,25 @@
 -- The question, from its admission on. Assumes nothing.
-use mathlib.Core.Path.{_≡_, sym, _∙_, subst}
+use mathlib.Core.Path.{_≡_, sym, _∙_}
 use mathlib.Core.Bool.{Bool, true, false, cond, _||_}
 use mathlib.Core.List.{List}
 use Prim.Native.Nat.{ℕ, _≤_}
-use native.Mathlib.Omega.{arith}
 use lib.Dec.{ltb}
 use lib.ListN.{length}
-use borrow.Author.Tests.{ltb-false}
 use Rattle.grammar.specs.Refusal.{Checked, refused, accepted}
-use Rattle.grammar.specs.Rule.{Rule}
+use Rattle.grammar.specs.Sheet.{sheet}
 use Rattle.grammar.specs.Words.{ruleIn}
 use Rattle.grammar.specs.declared.sheet.Grammar.{Grammar as Line}
 use Rattle.grammar.specs.declared.sheet.Sheet.{Sheet}
 use Rattle.grammar.specs.declared.sheet.Sheet.the-variants.{Read, Refused}
-use Rattle.schema.specs.Derivation.{_at_}
 use Rattle.schema.specs.Admission.{Admission}
-use Rattle.schema.specs.Closed.{Closed}
+use Rattle.schema.specs.Derivation.{_at_}
 use Rattle.schema.specs.Handed.{handed, asked, questionOf}
-use Rattle.schema.specs.Table.{Within, cells}
-use Rattle.schema.proofs.Admitted.{Admitted, admitted, not-admitted}
+use Rattle.schema.specs.Table.{cells}
 use Rattle.schema.proofs.Admission.{slicesOut, question-follows}
-use Rattle.schema.proofs.Handed.{neither-true, handed-sheet}
-use Rattle.schema.proofs.SheetClosed.{sheet-closed}
+use Rattle.schema.proofs.Admitted.{Admitted, admitted, not-admitted}
+use Rattle.schema.proofs.Handed.{handed-sheet}
 use Rattle.memo.specs.Answer.{Reply, Replies, Says, AskReady}
+use Rattle.memo.proofs.Ready.{few-variables, ready, says-of}
 
 module _ {s input : List ℕ} {A p : ℕ} {before after : List ℕ} {r : Sheet} (admission : Admission s input A p before after r) (table work : List ℕ) where
   -- Refused before the slices are looked at.
@@ -32,21 +29,21 @@ module _ {s input : List ℕ} {A p : ℕ} {before after : List ℕ} {r : Sheet} 
       let h = not-admitted s input A p before after r admission x l e in
       rw (question-follows s input A p (length table) (length work) (refused x l) h) (t, k, m)
 
-  module _ {g : Line} (e : r ≡ Read g) where
-    read : Admitted s input A p after g
-    read = admitted s input A p before after r admission g e
+  module _ {l : Line} (e : r ≡ Read l) where
+    read : Admitted s input A p after l
+    read = admitted s input A p before after r admission l e
+
+    accepts : sheet s ≡ accepted (read .grammar)
+    accepts = handed-sheet s (asked input (A at p)) (read .grammar) (read .accepts)
 
     follows : handed s (questionOf input (A at p) (length table) (length work))
         ≡ cond (slicesOut s input A p (length table) (length work) (read .grammar)) (refused 10 0) (accepted (read .grammar))
     follows = question-follows s input A p (length table) (length work) (accepted (read .grammar)) (read .accepts)
 
-    pub in-bounds : (g .variables ≤ 256) × (length input ≤ 4096)
-    in-bounds =
-        let few = read .variables-few in
-        let v = read .variables-are in
-        (omega arith, read .input-short)
+    pub in-bounds : (l .variables ≤ 256) × (length input ≤ 4096)
+    in-bounds = (few-variables s (read .grammar) accepts (read .variables-are) (read .rules-are), read .input-short)
 
-    module _ {small : Bool} (tested : small ≡ (ltb (length table) (cells (g .variables) (length input)) || ltb (length work) (cells (g .variables) (length input)))) where
+    module _ {small : Bool} (tested : small ≡ (ltb (length table) (cells (l .variables) (length input)) || ltb (length work) (cells (l .variables) (length input)))) where
       tested-is : slicesOut s input A p (length table) (length work) (read .grammar) ≡ small
       tested-is = rw (read .variables-are) (sym tested)
 
@@ -56,23 +53,12 @@ module _ {s input : List ℕ} {A p : ℕ} {before after : List ℕ} {r : Sheet} 
       refused-small h t k m = rw (follows, tested-is, h) (t, k, m)
 
       -- What asking is handed.
-      pub ask-ready : small ≡ false → AskReady (ruleIn after) input (g .variables) A p table work
+      pub ask-ready : small ≡ false → AskReady (ruleIn after) input (l .variables) A p table work
       ask-ready h =
-          let v = read .variables-are in
-          let b = in-bounds in
-          let z = neither-true (ltb (length table) (cells (g .variables) (length input))) (ltb (length work) (cells (g .variables) (length input))) (sym tested ∙ h) in
-          record {
-            few = b .0;
-            short = b .1;
-            closed = subst (λ (n : ℕ). Closed n (ruleIn after)) v (subst (Closed (read .grammar .variables)) (sym (read .rules-are)) (sheet-closed s (read .grammar) (handed-sheet s (asked input (A at p)) (read .grammar) (read .accepts))));
-            within = subst (λ (n : ℕ). Within n (length input) A p) v (read .pair-within);
-            room = ltb-false (length table) (cells (g .variables) (length input)) (z .0);
-            work-room = ltb-false (length work) (cells (g .variables) (length input)) (z .1);
-          }
+          ready s (read .grammar) accepts (read .variables-are) (read .rules-are) input table work A p (read .input-short) (read .pair-within) (sym tested ∙ h)
 
       -- The answer.
-      pub replies : {table′ work′ : List ℕ} {t : Checked Reply} → small ≡ false → Says (ruleIn after) (g .variables) input (A at p) table table′ work work′ t
+      pub replies : {table′ work′ : List ℕ} {t : Checked Reply} → small ≡ false → Says (ruleIn after) (l .variables) input (A at p) table table′ work work′ t
           → Replies (handed s (questionOf input (A at p) (length table) (length work))) input (A at p) table table′ work work′ t
       replies {table′} {work′} {t} h a =
-          rw (follows, tested-is, h) (subst (λ (v : ℕ). Says (read .grammar .rule) v input (A at p) table table′ work work′ t) (sym (read .variables-are))
-          (subst (λ (f : ℕ → Rule). Says f (g .variables) input (A at p) table table′ work work′ t) (read .rules-are) a))
+          rw (follows, tested-is, h) (says-of s (read .grammar) accepts (read .variables-are) (read .rules-are) input (A at p) table table′ work work′ t a)

@@ -2,3 +2,4 @@
 pub mod Answer
 pub mod Walk
 pub mod Finish
+pub mod Verdict

@@ -1,19 +1,15 @@
-use mathlib.Core.Path.{_≡_, sym, ap, _∙_, subst}
-use Prim.Native.Nat.{ℕ, _<_, _/_, _%_}
+use mathlib.Core.Path.{sym, ap, _∙_, subst}
+use Prim.Native.Nat.{ℕ, _<_}
 use native.Mathlib.Omega.{arith}
-use lib.ListN.{length, getD, set, length-set}
+use lib.ListN.{length, set, length-set}
 use Rattle.calls.proofs.Links.{view}
 use Rattle.calls.proofs.Table.{weight}
 use Rattle.schema.specs.Derivation.{_at_}
-use Rattle.schema.specs.Table.{cell, cells}
+use Rattle.schema.specs.Table.{cells}
 use Rattle.memo.proofs.Numbers.{cell-small}
 use Rattle.memo.proofs.Closing.{openOr, Closing, begins, top-within, top-in, top-in-work, close-falls, closes, goes-on}
 use Rattle.memo.proofs.close.Statement.{statement}
 use Rattle.memo.proofs.close.Tie as tie
-use Rattle.memo.proofs.close.Reads as reads
-use Rattle.memo.proofs.close.Lts as lts
-use Rattle.memo.proofs.Cell.store.Reads as store-reads
-use Rattle.memo.proofs.cell_number.Reads as cell-number-reads
 
 abbrev Inv-loop : tie.InvT-loop
 Inv-loop n variables variable position b q outcome table₀ work root a₀ p₀ table a p = Closing n variables (variable at position) (outcome .0) table₀ table work a p
@@ -21,7 +17,6 @@ Inv-loop n variables variable position b q outcome table₀ work root a₀ p₀ 
 abbrev μ-loop : tie.MeasureT-loop
 μ-loop n variables variable position b q outcome table₀ work root a₀ p₀ table a p = weight (view openOr table) (cells variables n)
 
--- src/lib.rt:220:9
 cell-number-requires : tie.Need-cell-number-requires Inv-loop μ-loop
 cell-number-requires c κs =
     let r = c .before .before .pre in
@@ -30,11 +25,9 @@ cell-number-requires c κs =
     let h = i .high in
     (i .low, omega arith, r .short, i .place)
 
--- src/lib.rt:223:5
 loop-holds : tie.Need-loop-holds Inv-loop μ-loop
 loop-holds c = begins (c .before .before .before .pre)
 
--- src/lib.rt:224:13
 cell-number-requires-2 : tie.Need-cell-number-requires-2 Inv-loop μ-loop
 cell-number-requires-2 c κs =
     let L = c .loop in
@@ -44,7 +37,6 @@ cell-number-requires-2 c κs =
     let h = i .high in
     (i .low, omega arith, r .short, i .place)
 
--- src/lib.rt:225:9
 store-requires : tie.Need-store-requires Inv-loop μ-loop
 store-requires c κs =
     let L = c .before .before .loop in
@@ -53,7 +45,6 @@ store-requires c κs =
     let r = st .pre in
     subst (λ (k : ℕ). k < length (L .table)) (sym (c .before .cell-number2 .ensures)) (top-in r (L .inv))
 
--- src/lib.rt:227:13
 same-length : tie.Need-same-length Inv-loop μ-loop
 same-length c =
     let L = c .before .before .before .before .before .before .loop in
@@ -62,7 +53,6 @@ same-length c =
     let r = st .pre in
     ap length (c .before .before .before .store .ensures) ∙ simp length-set (L .inv .size)
 
--- src/lib.rt:227:13
 returns : tie.Need-returns Inv-loop μ-loop
 returns c =
     let L = c .before .before .before .before .before .before .loop in
@@ -71,7 +61,6 @@ returns c =
     let r = st .pre in
     rw (c .before .before .before .store .ensures ∙ ap (λ (k : ℕ). set (L .table) k (a .outcome .0)) (c .before .before .before .before .before .cell-number2 .ensures)) (closes r (L .inv) (sym (c .before .before .before .before .before .cell-number2 .ensures) ∙ c .if1 .taken ∙ c .before .before .before .before .before .before .before .cell-number .ensures))
 
--- src/lib.rt:229:22
 mul-caller : tie.Need-mul-caller Inv-loop μ-loop
 mul-caller c =
     let L = c .before .before .before .before .before .before .loop in
@@ -84,7 +73,6 @@ mul-caller c =
     let m = cell-small (a .n) (L .a) (L .p) (omega arith) (r .short) (i .place) in
     omega (arith, c .before .before .before .before .before .cell-number2 .ensures)
 
--- src/lib.rt:229:22
 shared-slice-read-caller : tie.Need-shared-slice-read-caller Inv-loop μ-loop
 shared-slice-read-caller c =
     let L = c .before .before .before .before .before .before .before .loop in
@@ -93,7 +81,6 @@ shared-slice-read-caller c =
     let r = st .pre in
     subst (λ (k : ℕ). k < length (a .work .now)) (sym (c .before .before .before .before .before .before .cell-number2 .ensures)) (top-in-work r (L .inv))
 
--- src/lib.rt:223:5
 loop-less : tie.Need-loop-less Inv-loop μ-loop
 loop-less c =
     let L = c .before .before .before .before .before .before .before .loop in
@@ -102,7 +89,6 @@ loop-less c =
     let r = st .pre in
     rw (c .before .before .before .before .store .ensures ∙ ap (λ (k : ℕ). set (L .table) k (a .outcome .0)) (c .before .before .before .before .before .before .cell-number2 .ensures)) (close-falls r (L .inv))
 
--- src/lib.rt:223:5
 loop-again : tie.Need-loop-again Inv-loop μ-loop
 loop-again c =
     let L = c .before .before .before .before .before .before .before .loop in

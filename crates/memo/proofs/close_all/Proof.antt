@@ -3,24 +3,16 @@ use Rattle.memo.proofs.Numbers.{cells-small}
 use borrow.Author.Needs.{needs}
 use Rattle.memo.proofs.close_all.Statement.{statement}
 use Rattle.memo.proofs.close_all.Tie as tie
-use Rattle.memo.proofs.close_all.Reads as reads
-use Rattle.memo.proofs.close_all.Lts as lts
-use Rattle.memo.proofs.close.Reads as close-reads
-use Rattle.memo.proofs.count_decided.Reads as count-decided-reads
 
--- src/lib.rt:267:5
 close-requires : tie.Need-close-requires
 close-requires c κs = search needs
 
--- src/lib.rt:268:48
 add-count-decided : tie.Need-add-count-decided
 add-count-decided c = search needs
 
--- src/lib.rt:268:26
 mul-count-decided : tie.Need-mul-count-decided
 mul-count-decided c = search needs
 
--- src/lib.rt:268:5
 count-decided-requires : tie.Need-count-decided-requires
 count-decided-requires c κs =
     let st = c .before .before .before .before .before .before .before in
@@ -30,11 +22,9 @@ count-decided-requires c κs =
     let z = c .before .before .before .close .ensures .size in
     (omega arith, cells-small (a .variables) (a .n) (r .few) (r .short))
 
--- src/lib.rt:262:1
 same-length : tie.Need-same-length
 same-length c = search needs
 
--- src/lib.rt:262:1
 returns : tie.Need-returns
 returns c = search needs
 

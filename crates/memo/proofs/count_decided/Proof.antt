@@ -8,8 +8,6 @@ use Rattle.memo.proofs.Decided.{decided-none, decided-blank, decided-mo
 use borrow.Author.Needs.{needs}
 use Rattle.memo.proofs.count_decided.Statement.{statement}
 use Rattle.memo.proofs.count_decided.Tie as tie
-use Rattle.memo.proofs.count_decided.Reads as reads
-use Rattle.memo.proofs.count_decided.Lts as lts
 
 abbrev Inv-loop : tie.InvT-loop
 Inv-loop table size count₀ i₀ count i = (i ≤ size) × (count ≤ i) × (count ≡ decided (take i table))
@@ -17,31 +15,24 @@ Inv-loop table size count₀ i₀ count i = (i ≤ size) × (count ≤ i) × (co
 abbrev μ-loop : tie.MeasureT-loop
 μ-loop table size count₀ i₀ count i = size - i
 
--- src/lib.rt:206:5
 loop-holds : tie.Need-loop-holds Inv-loop μ-loop
 loop-holds c = (omega arith, omega arith, sym (decided-none (c .args .table .now)))
 
--- src/lib.rt:207:12
 mul-if1 : tie.Need-mul-if1 Inv-loop μ-loop
 mul-if1 c = search needs
 
--- src/lib.rt:207:12
 shared-slice-read-if1 : tie.Need-shared-slice-read-if1 Inv-loop μ-loop
 shared-slice-read-if1 c = search needs
 
--- src/lib.rt:208:13
 add-count : tie.Need-add-count Inv-loop μ-loop
 add-count c = search needs
 
--- src/lib.rt:210:9
 add-i : tie.Need-add-i Inv-loop μ-loop
 add-i c = search needs
 
--- src/lib.rt:206:5
 loop-less : tie.Need-loop-less Inv-loop μ-loop
 loop-less c = search needs
 
--- src/lib.rt:206:5
 loop-again : tie.Need-loop-again Inv-loop μ-loop
 loop-again c =
     let i = c .before .before .before .before .loop .i in
@@ -53,7 +44,6 @@ loop-again c =
     (λ w. (omega arith, omega arith, omega (arith, decided-blank xs i l (w .0 .left))))
     (c .if1 .came)
 
--- src/lib.rt:200:1
 returns : tie.Need-returns Inv-loop μ-loop
 returns c =
     let e : c .before .loop .i ≡ c .before .before .args .size = omega arith in

@@ -1,21 +1,15 @@
-use mathlib.Core.Path.{_≡_, refl, sym, ap, _∙_, subst}
+use mathlib.Core.Path.{refl, sym, ap, _∙_}
 use native.Mathlib.Omega.{arith}
 use lib.ListN.{length}
 use Rattle.grammar.specs.Words.{ruleIn}
-use Rattle.schema.specs.Derivation.{_at_, success, failure, gives, calls, act}
+use Rattle.schema.specs.Derivation.{success, failure}
 use Rattle.schema.specs.Act.{told}
 use Rattle.memo.specs.Walk.{by-leaf}
 use Rattle.memo.proofs.Looking.{failure-settled, leaf-end, calls-ready}
 use borrow.Author.Needs.{needs}
 use Rattle.memo.proofs.look_at.Statement.{statement}
 use Rattle.memo.proofs.look_at.Tie as tie
-use Rattle.memo.proofs.look_at.Reads as reads
-use Rattle.memo.proofs.look_at.Lts as lts
-use Rattle.memo.proofs.Cell.success.Reads as success-reads
-use Rattle.memo.proofs.look_calls.Reads as look-calls-reads
-use Rattle.schema.proofs.act_at.Reads as act-at-reads
 
--- src/lib.rt:129:11
 act-at-requires : tie.Need-act-at-requires
 act-at-requires c κs =
     let r = c .before .before .pre in
@@ -23,11 +17,9 @@ act-at-requires c κs =
     let h = r .1 .high in
     (r .1 .low, omega arith, r .0 .short)
 
--- src/lib.rt:130:22
 enum-known-end : tie.Need-enum-known-end
 enum-known-end c = search needs
 
--- src/lib.rt:130:43
 success-requires : tie.Need-success-requires
 success-requires c κs =
     let a = c .before .before .before .before .before .before .args in
@@ -37,23 +29,18 @@ success-requires c κs =
     let w = r .0 .short in
     omega arith
 
--- src/lib.rt:24:31
 enum-told : tie.Need-enum-told
 enum-told c = search needs
 
--- src/lib.rt:132:25
 enum-told-2 : tie.Need-enum-told-2
 enum-told-2 c = search needs
 
--- src/lib.rt:133:21
 enum-told-3 : tie.Need-enum-told-3
 enum-told-3 c = search needs
 
--- src/lib.rt:134:20
 enum-known-b : tie.Need-enum-known-b
 enum-known-b c = search needs
 
--- src/lib.rt:134:32
 look-calls-requires : tie.Need-look-calls-requires
 look-calls-requires c κs =
     let a = c .before .before .before .before .before .before .args in
@@ -61,7 +48,6 @@ look-calls-requires c κs =
     let e = sym (c .before .before .before .act-at .ensures) ∙ ap told (c .before .b .given .1) in
     calls-ready (ruleIn (a .rules .now)) (a .input .now) (a .table .now) (a .variables) (a .variable) (a .position) _ _ _ (r .0) (r .1) e
 
--- src/lib.rt:125:1
 returns : tie.Need-returns
 returns c =
     let a = c .before .before .before .before .before .before .before .args in
@@ -70,22 +56,18 @@ returns c =
     let q = leaf-end (ruleIn (a .rules .now)) (a .input .now) (a .variable) (a .position) _ (r .1 .place) e in
     (success (c .before .before .end .given .0 .0), record { code-is = c .success .ensures; ends = q }, by-leaf e)
 
--- src/lib.rt:125:1
 returns-2 : tie.Need-returns-2
 returns-2 c =
     let a = c .before .before .before .before .before .args in
     let e = sym (c .before .before .act-at .ensures) ∙ ap told (c .enum-told .given .1) in
     (failure, failure-settled (length (a .input .now)) 1 refl, by-leaf e)
 
--- src/lib.rt:125:1
 returns-3 : tie.Need-returns-3
 returns-3 c = sym (c .before .before .act-at .ensures) ∙ ap told (c .enum-told2 .given .1)
 
--- src/lib.rt:125:1
 returns-4 : tie.Need-returns-4
 returns-4 c = sym (c .before .before .act-at .ensures) ∙ ap told (c .enum-told3 .given .1)
 
--- src/lib.rt:125:1
 returns-5 : tie.Need-returns-5
 returns-5 c =
     let a = c .before .before .before .before .before .before .before .args in

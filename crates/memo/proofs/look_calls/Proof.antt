@@ -1,14 +1,5 @@
-use mathlib.Core.Path.{_≡_, refl, sym, _∙_, subst}
+use mathlib.Core.Path.{sym, _∙_, subst}
 use Prim.Native.Nat.{ℕ, _-_, _<_}
-use native.Mathlib.Omega.{arith}
-use lib.ListN.{length}
-use Rattle.grammar.specs.Words.{ruleIn}
-use Rattle.schema.specs.Derivation.{_at_, success, failure}
-use Rattle.memo.specs.Walk.{Fits, Settled, first-called}
-use Rattle.memo.proofs.Looking.{held-is, failure-settled, success-settled, second-saw, ready-cell}
-use mathlib.Core.Path.{_≡_, refl, sym, _∙_, subst}
-use Prim.Native.Nat.{ℕ, _-_, _<_}
-use native.Mathlib.Omega.{arith}
 use lib.ListN.{length}
 use Rattle.grammar.specs.Words.{ruleIn}
 use Rattle.schema.specs.Derivation.{_at_, success, failure}
@@ -17,13 +8,7 @@ use Rattle.memo.proofs.Looking.{held-is, failure-settled, success-settl
 use borrow.Author.Needs.{needs}
 use Rattle.memo.proofs.look_calls.Statement.{statement}
 use Rattle.memo.proofs.look_calls.Tie as tie
-use Rattle.memo.proofs.look_calls.Reads as reads
-use Rattle.memo.proofs.look_calls.Lts as lts
-use Rattle.memo.proofs.Cell.load.Reads as load-reads
-use Rattle.memo.proofs.cell_number.Reads as cell-number-reads
-use Rattle.memo.proofs.look_second.Reads as look-second-reads
 
--- src/lib.rt:111:35
 cell-number-requires : tie.Need-cell-number-requires
 cell-number-requires c κs =
     let a = c .before .before .args in
@@ -31,7 +16,6 @@ cell-number-requires c κs =
     let q = ready-cell r (a .b) (a .position) (r .b-in) (r .position-in) in
     (q .0, q .1, q .2, q .3)
 
--- src/lib.rt:111:9
 load-requires : tie.Need-load-requires
 load-requires c κs =
     let a = c .before .before .before .args in
@@ -39,7 +23,6 @@ load-requires c κs =
     let q = ready-cell r (a .b) (a .position) (r .b-in) (r .position-in) in
     subst (λ (i : ℕ). i < length (a .table .now)) (sym (c .cell-number .ensures)) (q .4)
 
--- src/lib.rt:113:9
 look-second-requires : tie.Need-look-second-requires
 look-second-requires c κs =
     let l = c .before .before .before in
@@ -51,7 +34,6 @@ look-second-requires c κs =
     let e = held-is (length s) (a .table .now) y k (l .before .cell-number .result) (l .load .ensures) (l .before .cell-number .ensures) in
     ready-cell r (a .d) (a .position) (r .d-in) (r .position-in)
 
--- src/lib.rt:113:9
 returns : tie.Need-returns
 returns c =
     let l = c .before .before .before .before in
@@ -63,7 +45,6 @@ returns c =
     let e = held-is (length s) (a .table .now) y k (l .before .cell-number .result) (l .load .ensures) (l .before .cell-number .ensures) in
     λ A q. second-saw (ruleIn (a .rules .now)) s (a .table .now) A (a .position) (a .b) (a .c) (a .d) failure q (subst (λ (u : ℕ). Settled (length s) u failure) (sym e) (failure-settled (length s) k (c .before .if1 .taken))) (c .look-second .result) (c .look-second .ensures)
 
--- src/lib.rt:116:9
 returns-2 : tie.Need-returns-2
 returns-2 c =
     let l = c .before .before .before .before .before .before in
@@ -75,7 +56,6 @@ returns-2 c =
     let e = held-is (length s) (a .table .now) y k (l .before .cell-number .result) (l .load .ensures) (l .before .cell-number .ensures) in
     λ A q. (first-called q, rw e (record { no-failure = c .before .before .before .if1 .left; no-success = c .if2 .taken }))
 
--- src/lib.rt:119:9
 returns-3 : tie.Need-returns-3
 returns-3 c =
     let l = c .before .before .before .before .before .before .before .before .before in
@@ -87,11 +67,9 @@ returns-3 c =
     let e = held-is (length s) (a .table .now) y k (l .before .cell-number .result) (l .load .ensures) (l .before .cell-number .ensures) in
     λ A q. (first-called q, e ∙ c .if3 .taken)
 
--- src/lib.rt:121:30
 sub-look-second : tie.Need-sub-look-second
 sub-look-second c = search needs
 
--- src/lib.rt:121:5
 look-second-requires-2 : tie.Need-look-second-requires-2
 look-second-requires-2 c κs =
     let l = c .before .before .before .before .before .before .before .before .before .before .before in
@@ -106,7 +84,6 @@ look-second-requires-2 c κs =
     let m = success-settled (length s) k f (c .before .before .before .before .before .if2 .left) (c .before .before .if3 .left) in
     ready-cell r (a .c) (k - 5) (r .c-in) (m .ends)
 
--- src/lib.rt:106:1
 returns-4 : tie.Need-returns-4
 returns-4 c =
     let l = c .before .before .before .before .before .before .before .before .before .before .before .before in

@@ -1,27 +1,18 @@
-use mathlib.Core.Path.{_≡_, refl, sym, _∙_, subst}
-use mathlib.Core.Logic.{_≢_}
-use Prim.Native.Nat.{ℕ, _-_, _<_}
-use native.Mathlib.Omega.{arith}
+use mathlib.Core.Path.{refl, _∙_, subst}
+use Prim.Native.Nat.{_-_}
 use Rattle.schema.specs.Derivation.{_at_, success, failure}
 use Rattle.memo.specs.Walk.{Fits}
 use Rattle.memo.proofs.Looking.{held-is, failure-settled, success-settled}
 use borrow.Author.Needs.{needs}
 use Rattle.memo.proofs.look_second.Statement.{statement}
 use Rattle.memo.proofs.look_second.Tie as tie
-use Rattle.memo.proofs.look_second.Reads as reads
-use Rattle.memo.proofs.look_second.Lts as lts
-use Rattle.memo.proofs.Cell.load.Reads as load-reads
-use Rattle.memo.proofs.cell_number.Reads as cell-number-reads
 
--- src/lib.rt:92:35
 cell-number-requires : tie.Need-cell-number-requires
 cell-number-requires c κs = search needs
 
--- src/lib.rt:92:9
 load-requires : tie.Need-load-requires
 load-requires c κs = search needs
 
--- src/lib.rt:94:9
 returns : tie.Need-returns
 returns c =
     let l = c .before .before .before in
@@ -30,7 +21,6 @@ returns c =
     let e = held-is (a .n) (a .table .now) y (l .load .result .0) (l .before .cell-number .result) (l .load .ensures) (l .before .cell-number .ensures) in
     (failure, failure-settled (a .n) (l .load .result .0) (c .if1 .taken), e)
 
--- src/lib.rt:97:9
 returns-2 : tie.Need-returns-2
 returns-2 c =
     let l = c .before .before .before .before .before .before in
@@ -39,7 +29,6 @@ returns-2 c =
     let e = held-is (a .n) (a .table .now) y (l .load .result .0) (l .before .cell-number .result) (l .load .ensures) (l .before .cell-number .ensures) in
     (refl, rw e (record { no-failure = c .before .before .before .if1 .left; no-success = c .if2 .taken }))
 
--- src/lib.rt:100:9
 returns-3 : tie.Need-returns-3
 returns-3 c =
     let l = c .before .before .before .before .before .before .before .before .before in
@@ -48,7 +37,6 @@ returns-3 c =
     let e = held-is (a .n) (a .table .now) y (l .load .result .0) (l .before .cell-number .result) (l .load .ensures) (l .before .cell-number .ensures) in
     (refl, e ∙ c .if3 .taken)
 
--- src/lib.rt:88:1
 returns-4 : tie.Need-returns-4
 returns-4 c =
     let l = c .before .before .before .before .before .before .before .before .before in

@@ -1,38 +1,26 @@
-use mathlib.Core.Path.{_≡_, sym, ap, _∙_, subst}
-use Prim.Native.Nat.{ℕ, _<_}
+use mathlib.Core.Path.{ap}
 use native.Mathlib.Omega.{arith}
-use lib.ListN.{length, set, length-set}
+use lib.ListN.{length}
 use Rattle.schema.specs.Derivation.{_at_}
-use Rattle.schema.specs.Table.{cell, cells}
+use Rattle.schema.specs.Table.{cells}
 use Rattle.schema.proofs.Cell.{cell-below}
-use Rattle.memo.specs.Walk.{openMark}
-use Rattle.memo.proofs.Cleared.{cleared, cleared-length}
+use Rattle.memo.proofs.Cleared.{cleared-length}
 use borrow.Author.Needs.{needs}
 use Rattle.memo.proofs.open_asked.Statement.{statement}
 use Rattle.memo.proofs.open_asked.Tie as tie
-use Rattle.memo.proofs.open_asked.Reads as reads
-use Rattle.memo.proofs.open_asked.Lts as lts
-use Rattle.memo.proofs.Cell.store.Reads as store-reads
-use Rattle.memo.proofs.blank.Reads as blank-reads
-use Rattle.memo.proofs.cell_number.Reads as cell-number-reads
 
--- src/lib.rt:277:40
 add-blank : tie.Need-add-blank
 add-blank c = search needs
 
--- src/lib.rt:277:18
 mul-blank : tie.Need-mul-blank
 mul-blank c = search needs
 
--- src/lib.rt:277:5
 blank-requires : tie.Need-blank-requires
 blank-requires c κs = search needs
 
--- src/lib.rt:278:29
 cell-number-requires : tie.Need-cell-number-requires
 cell-number-requires c κs = search needs
 
--- src/lib.rt:278:5
 store-requires : tie.Need-store-requires
 store-requires c κs =
     let st = c .before .before .before .before .before .before .before in
@@ -43,11 +31,9 @@ store-requires c κs =
     let e = ap length (c .before .before .before .before .blank .ensures) in
     omega (arith, c .cell-number .ensures)
 
--- src/lib.rt:273:1
 same-length : tie.Need-same-length
 same-length c = search needs
 
--- src/lib.rt:273:1
 returns : tie.Need-returns
 returns c = rw (c .before .before .store .ensures, c .before .before .before .before .before .before .before .blank .ensures, c .before .before .before .cell-number .ensures)
 

@@ -3,59 +3,44 @@ use mathlib.Core.Path.{refl}
 use borrow.Author.Needs.{needs}
 use Rattle.memo.proofs.question.Statement.{statement}
 use Rattle.memo.proofs.question.Tie as tie
-use Rattle.memo.proofs.question.Reads as reads
-use Rattle.memo.proofs.question.Lts as lts
-use Rattle.memo.proofs.ask.Reads as ask-reads
-use Rattle.memo.proofs.too_small.Reads as too-small-reads
-use Rattle.schema.proofs.admit.Reads as admit-reads
 
--- src/lib.rt:293:9
 admit-requires : tie.Need-admit-requires
 admit-requires c κs = search needs
 
--- src/lib.rt:295:24
 enum-known-read : tie.Need-enum-known-read
 enum-known-read c = search needs
 
--- src/lib.rt:296:21
 enum-known-read-2 : tie.Need-enum-known-read-2
 enum-known-read-2 c = search needs
 
--- src/lib.rt:298:16
 too-small-requires : tie.Need-too-small-requires
 too-small-requires c κs =
     let a = c .before .before .before .before .before .before .before .before .before .args in
     in-bounds (c .before .before .before .admit .ensures) (a .table .now) (a .work .now) (c .before .read2 .given .1)
 
--- src/lib.rt:299:17
 returns : tie.Need-returns
 returns c =
     let m = c .before .before .before .before .before .admit in
     let a = c .before .before .before .before .before .before .before .before .before .before .before .args in
     refused-small (m .ensures) (a .table .now) (a .work .now) (c .before .before .before .read2 .given .1) (c .before .too-small .ensures) (c .if1 .taken) refl refl refl
 
--- src/lib.rt:301:13
 ask-requires : tie.Need-ask-requires
 ask-requires c κs =
     let m = c .before .before .before .before .before .before .before .before .admit in
     ask-ready (m .ensures) _ _ (c .before .before .before .before .before .before .read2 .given .1) (c .before .before .before .before .too-small .ensures) (c .before .before .before .if1 .left)
 
--- src/lib.rt:289:1
 returns-2 : tie.Need-returns-2
 returns-2 c =
     let m = c .before .before .before .admit in
     let a = c .before .before .before .before .before .before .before .before .before .args in
     refused-first (m .ensures) (a .table .now) (a .work .now) (c .before .read .given .1) refl refl refl
 
--- src/lib.rt:289:1
 same-length : tie.Need-same-length
 same-length c = c .before .before .before .before .ask .ensures .2 .leaves .size
 
--- src/lib.rt:289:1
 same-length-2 : tie.Need-same-length-2
 same-length-2 c = c .before .before .before .before .ask .ensures .2 .size
 
--- src/lib.rt:289:1
 returns-3 : tie.Need-returns-3
 returns-3 c =
     let m = c .before .before .before .before .before .before .before .before .before .before .before .before .before .admit in

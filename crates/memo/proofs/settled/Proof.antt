@@ -1,20 +1,14 @@
 use mathlib.Core.Logic.{⊎-elim}
-use native.Mathlib.Omega.{arith}
 use borrow.Author.Tests.{eq-eqb, ne-eqb}
 use Rattle.memo.proofs.settled.Statement.{statement}
 use Rattle.memo.proofs.settled.Tie as tie
-use Rattle.memo.proofs.settled.Reads as reads
-use Rattle.memo.proofs.settled.Lts as lts
 
--- src/lib.rt:256:9
 returns : tie.Need-returns
 returns c = rw (eq-eqb _ _ (c .if1 .taken))
 
--- src/lib.rt:258:21
 sub-t5 : tie.Need-sub-t5
 sub-t5 c = ⊎-elim (λ e. absurd (c .before .before .if1 .left e)) (λ l. l) (c .before .before .before .before .before .pre)
 
--- src/lib.rt:251:1
 returns-2 : tie.Need-returns-2
 returns-2 c = rw (ne-eqb _ _ (c .before .before .if1 .left))
 

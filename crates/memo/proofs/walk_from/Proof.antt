@@ -1,26 +1,20 @@
-use mathlib.Core.Path.{_≡_, refl, sym, ap, _∙_, subst}
-use Prim.Native.Nat.{ℕ, _<_, _/_, _%_}
+use mathlib.Core.Path.{sym, ap, _∙_, subst}
+use Prim.Native.Nat.{ℕ, _<_}
 use native.Mathlib.Omega.{arith}
-use lib.ListN.{length, getD, set, length-set}
+use lib.ListN.{length, set, length-set}
 use Rattle.calls.proofs.Links.{view}
 use Rattle.calls.proofs.Table.{weight}
 use Rattle.grammar.specs.Words.{ruleIn}
 use Rattle.schema.specs.Derivation.{_at_}
 use Rattle.schema.specs.Table.{cell, cells}
-use Rattle.memo.specs.Walk.{before, openMark, Saw, packed}
+use Rattle.memo.specs.Walk.{before, openMark, Saw}
 use Rattle.memo.proofs.Marks.{mark}
 use Rattle.memo.proofs.Numbers.{cell-small}
-use Rattle.memo.proofs.Going.{Going, begins, open-within, open-falls, open-goes, settle-falls, settle-goes, room-before, walkable-still, work-still, table-length, bounds, in-table, in-work}
+use Rattle.memo.proofs.Going.{Going, begins, open-within, open-falls, open-goes, settle-falls, settle-goes, room-before, walkable-still, table-length, bounds, in-table, in-work}
 use Rattle.memo.proofs.Ended.{again-ends, missing-ends, end-ends, settle-ends}
 use borrow.Author.Needs.{needs}
 use Rattle.memo.proofs.walk_from.Statement.{statement}
 use Rattle.memo.proofs.walk_from.Tie as tie
-use Rattle.memo.proofs.walk_from.Reads as reads
-use Rattle.memo.proofs.walk_from.Lts as lts
-use Rattle.memo.proofs.Cell.store.Reads as store-reads
-use Rattle.memo.proofs.cell_number.Reads as cell-number-reads
-use Rattle.memo.proofs.look_at.Reads as look-at-reads
-use Rattle.memo.proofs.pack.Reads as pack-reads
 
 abbrev Inv-loop : tie.InvT-loop
 Inv-loop rules input variable position variables table₀ work₀ n root a₀ p₀ table work a p = Going (ruleIn rules) input variables (variable at position) (before (length input) (variable at position) table₀) work₀ table work a p
@@ -28,7 +22,6 @@ Inv-loop rules input variable position variables table₀ work₀ n root a₀ p�
 abbrev μ-loop : tie.MeasureT-loop
 μ-loop rules input variable position variables table₀ work₀ n root a₀ p₀ table work a p = weight (view mark table) (cells variables (length input))
 
--- src/lib.rt:152:9
 cell-number-requires : tie.Need-cell-number-requires Inv-loop μ-loop
 cell-number-requires c κs =
     let r = c .before .before .before .pre in
@@ -37,7 +30,6 @@ cell-number-requires c κs =
     let h = i .high in
     (i .low, omega arith, r .walkable .short, i .place)
 
--- src/lib.rt:155:5
 loop-holds : tie.Need-loop-holds Inv-loop μ-loop
 loop-holds c =
     let st = c .before .before .before .before in
@@ -45,7 +37,6 @@ loop-holds c =
     let w = st .pre .walkable in
     begins (ruleIn (a .rules .now)) (a .input .now) (a .variables) (w .closed) (w .few) (w .short) (a .variable) (a .position) (a .table .now) (a .work .now) (st .pre)
 
--- src/lib.rt:156:15
 look-at-requires : tie.Need-look-at-requires Inv-loop μ-loop
 look-at-requires c κs =
     let L = c .before .loop in
@@ -55,11 +46,9 @@ look-at-requires c κs =
     let w = r .walkable in
     (walkable-still r (L .inv), L .inv .within)
 
--- src/lib.rt:157:24
 enum-known-b : tie.Need-enum-known-b Inv-loop μ-loop
 enum-known-b c = search needs
 
--- src/lib.rt:158:21
 cell-number-requires-2 : tie.Need-cell-number-requires-2 Inv-loop μ-loop
 cell-number-requires-2 c κs =
     let L = c .before .before .before .before .before .loop in
@@ -71,7 +60,6 @@ cell-number-requires-2 c κs =
     let i = open-within (ruleIn (a .rules .now)) (a .input .now) (a .variables) (w .closed) (w .few) (w .short) (L .inv) (room-before r) _ _ (saw .0) (saw .1) in
     bounds r (L .inv) _ _ i
 
--- src/lib.rt:159:17
 store-requires : tie.Need-store-requires Inv-loop μ-loop
 store-requires c κs =
     let L = c .before .before .before .before .before .before .before .loop in
@@ -83,7 +71,6 @@ store-requires c κs =
     let i = open-within (ruleIn (a .rules .now)) (a .input .now) (a .variables) (w .closed) (w .few) (w .short) (L .inv) (room-before r) _ _ (saw .0) (saw .1) in
     subst (λ (k : ℕ). k < length (L .table)) (sym (c .before .cell-number2 .ensures)) (in-table r (L .inv) _ _ i)
 
--- src/lib.rt:160:31
 pack-requires : tie.Need-pack-requires Inv-loop μ-loop
 pack-requires c κs =
     let L = c .before .before .before .before .before .before .before .before .before .before .loop in
@@ -94,7 +81,6 @@ pack-requires c κs =
     let b = bounds r (L .inv) (L .a) (L .p) (L .inv .within) in
     omega arith
 
--- src/lib.rt:160:17
 mul-work : tie.Need-mul-work Inv-loop μ-loop
 mul-work c =
     let L = c .before .before .before .before .before .before .before .before .before .before .before .loop in
@@ -108,7 +94,6 @@ mul-work c =
     let m = cell-small (length (a .input .now)) _ _ (b .1) (b .2) (b .3) in
     omega (arith, c .before .before .before .before .before .cell-number2 .ensures)
 
--- src/lib.rt:160:17
 slice-write-work : tie.Need-slice-write-work Inv-loop μ-loop
 slice-write-work c =
     let L = c .before .before .before .before .before .before .before .before .before .before .before .loop in
@@ -120,7 +105,6 @@ slice-write-work c =
     let i = open-within (ruleIn (a .rules .now)) (a .input .now) (a .variables) (w .closed) (w .few) (w .short) (L .inv) (room-before r) _ _ (saw .0) (saw .1) in
     subst (λ (k : ℕ). k < length (L .work)) (sym (c .before .before .before .before .before .cell-number2 .ensures)) (in-work r (L .inv) _ _ i)
 
--- src/lib.rt:155:5
 loop-less : tie.Need-loop-less Inv-loop μ-loop
 loop-less c =
     let L = c .before .before .before .before .before .before .before .before .before .before .before .loop in
@@ -131,7 +115,6 @@ loop-less c =
     let saw = subst (Saw (ruleIn (a .rules .now)) (a .input .now) (L .table) (L .a at L .p)) (c .before .before .before .before .before .before .before .b .given .1) (c .before .before .before .before .before .before .before .before .before .look-at .ensures) in
     rw (c .before .before .before .store .ensures ∙ ap (λ (k : ℕ). set (L .table) k openMark) (c .before .before .before .before .before .cell-number2 .ensures)) (open-falls (ruleIn (a .rules .now)) (a .input .now) (a .variables) (w .closed) (w .few) (w .short) (L .inv) (room-before r) _ _ (saw .0) (saw .1))
 
--- src/lib.rt:155:5
 loop-again : tie.Need-loop-again Inv-loop μ-loop
 loop-again c =
     let L = c .before .before .before .before .before .before .before .before .before .before .before .loop in
@@ -142,11 +125,9 @@ loop-again c =
     let saw = subst (Saw (ruleIn (a .rules .now)) (a .input .now) (L .table) (L .a at L .p)) (c .before .before .before .before .before .before .before .b .given .1) (c .before .before .before .before .before .before .before .before .before .look-at .ensures) in
     rw ((c .before .before .before .store .ensures ∙ ap (λ (k : ℕ). set (L .table) k openMark) (c .before .before .before .before .before .cell-number2 .ensures)), c .before .before .before .before .before .cell-number2 .ensures) (open-goes (ruleIn (a .rules .now)) (a .input .now) (a .variables) (w .closed) (w .few) (w .short) (L .inv) (room-before r) _ _ (saw .0) (saw .1) (c .pack .result) (r .work-room) (c .pack .ensures))
 
--- src/lib.rt:164:25
 enum-known-b-2 : tie.Need-enum-known-b-2 Inv-loop μ-loop
 enum-known-b-2 c = search needs
 
--- src/lib.rt:165:17
 same-length : tie.Need-same-length Inv-loop μ-loop
 same-length c =
     let L = c .before .before .before .before .before .loop in
@@ -156,7 +137,6 @@ same-length c =
     let w = r .walkable in
     table-length r (L .inv)
 
--- src/lib.rt:165:17
 same-length-2 : tie.Need-same-length-2 Inv-loop μ-loop
 same-length-2 c =
     let L = c .before .before .before .before .before .loop in
@@ -166,7 +146,6 @@ same-length-2 c =
     let w = r .walkable in
     L .inv .through .work-size
 
--- src/lib.rt:165:17
 returns : tie.Need-returns Inv-loop μ-loop
 returns c =
     let L = c .before .before .before .before .before .loop in
@@ -177,11 +156,9 @@ returns c =
     let saw = subst (Saw (ruleIn (a .rules .now)) (a .input .now) (L .table) (L .a at L .p)) (c .before .b2 .given .1) (c .before .before .before .look-at .ensures) in
     again-ends (ruleIn (a .rules .now)) (a .input .now) (a .variables) (w .closed) (w .few) (w .short) (r .within) (L .inv) _ _ (saw .0) (saw .1)
 
--- src/lib.rt:168:17
 enum-told : tie.Need-enum-told Inv-loop μ-loop
 enum-told c = search needs
 
--- src/lib.rt:168:17
 same-length-3 : tie.Need-same-length-3 Inv-loop μ-loop
 same-length-3 c =
     let L = c .before .before .before .before .loop in
@@ -191,7 +168,6 @@ same-length-3 c =
     let w = r .walkable in
     table-length r (L .inv)
 
--- src/lib.rt:168:17
 same-length-4 : tie.Need-same-length-4 Inv-loop μ-loop
 same-length-4 c =
     let L = c .before .before .before .before .loop in
@@ -201,7 +177,6 @@ same-length-4 c =
     let w = r .walkable in
     L .inv .through .work-size
 
--- src/lib.rt:168:17
 returns-2 : tie.Need-returns-2 Inv-loop μ-loop
 returns-2 c =
     let L = c .before .before .before .before .loop in
@@ -212,11 +187,9 @@ returns-2 c =
     let saw = subst (Saw (ruleIn (a .rules .now)) (a .input .now) (L .table) (L .a at L .p)) (c .enum-told .given .1) (c .before .before .look-at .ensures) in
     missing-ends (ruleIn (a .rules .now)) (a .input .now) (a .variables) (w .closed) (w .few) (w .short) (r .within) (L .inv) saw
 
--- src/lib.rt:171:17
 enum-told-2 : tie.Need-enum-told-2 Inv-loop μ-loop
 enum-told-2 c = search needs
 
--- src/lib.rt:171:17
 same-length-5 : tie.Need-same-length-5 Inv-loop μ-loop
 same-length-5 c =
     let L = c .before .before .before .before .loop in
@@ -226,7 +199,6 @@ same-length-5 c =
     let w = r .walkable in
     table-length r (L .inv)
 
--- src/lib.rt:171:17
 same-length-6 : tie.Need-same-length-6 Inv-loop μ-loop
 same-length-6 c =
     let L = c .before .before .before .before .loop in
@@ -236,7 +208,6 @@ same-length-6 c =
     let w = r .walkable in
     L .inv .through .work-size
 
--- src/lib.rt:171:17
 returns-3 : tie.Need-returns-3 Inv-loop μ-loop
 returns-3 c =
     let L = c .before .before .before .before .loop in
@@ -247,11 +218,9 @@ returns-3 c =
     let saw = subst (Saw (ruleIn (a .rules .now)) (a .input .now) (L .table) (L .a at L .p)) (c .enum-told2 .given .1) (c .before .before .look-at .ensures) in
     end-ends (ruleIn (a .rules .now)) (a .input .now) (a .variables) (w .closed) (w .few) (w .short) (r .within) (L .inv) saw
 
--- src/lib.rt:173:26
 enum-known-cell : tie.Need-enum-known-cell Inv-loop μ-loop
 enum-known-cell c = search needs
 
--- src/lib.rt:174:21
 cell-number-requires-3 : tie.Need-cell-number-requires-3 Inv-loop μ-loop
 cell-number-requires-3 c κs =
     let L = c .before .before .before .before .before .loop in
@@ -261,7 +230,6 @@ cell-number-requires-3 c κs =
     let w = r .walkable in
     bounds r (L .inv) (L .a) (L .p) (L .inv .within)
 
--- src/lib.rt:175:17
 store-requires-2 : tie.Need-store-requires-2 Inv-loop μ-loop
 store-requires-2 c κs =
     let L = c .before .before .before .before .before .before .before .loop in
@@ -271,7 +239,6 @@ store-requires-2 c κs =
     let w = r .walkable in
     subst (λ (k : ℕ). k < length (L .table)) (sym (c .before .cell-number3 .ensures)) (in-table r (L .inv) (L .a) (L .p) (L .inv .within))
 
--- src/lib.rt:177:21
 same-length-7 : tie.Need-same-length-7 Inv-loop μ-loop
 same-length-7 c =
     let L = c .before .before .before .before .before .before .before .before .before .before .before .loop in
@@ -281,7 +248,6 @@ same-length-7 c =
     let w = r .walkable in
     ap length (c .before .before .before .store2 .ensures) ∙ simp length-set (table-length r (L .inv))
 
--- src/lib.rt:177:21
 same-length-8 : tie.Need-same-length-8 Inv-loop μ-loop
 same-length-8 c =
     let L = c .before .before .before .before .before .before .before .before .before .before .before .loop in
@@ -291,7 +257,6 @@ same-length-8 c =
     let w = r .walkable in
     L .inv .through .work-size
 
--- src/lib.rt:177:21
 returns-4 : tie.Need-returns-4 Inv-loop μ-loop
 returns-4 c =
     let L = c .before .before .before .before .before .before .before .before .before .before .before .loop in
@@ -302,7 +267,6 @@ returns-4 c =
     let saw = subst (Saw (ruleIn (a .rules .now)) (a .input .now) (L .table) (L .a at L .p)) (c .before .before .before .before .before .before .before .cell .given .1) (c .before .before .before .before .before .before .before .before .before .look-at .ensures) in
     rw (c .before .before .before .store2 .ensures ∙ ap (λ (k : ℕ). set (L .table) k (c .before .before .before .before .before .before .before .cell .given .0 .0 .0)) (c .before .before .before .before .before .cell-number3 .ensures)) (settle-ends (ruleIn (a .rules .now)) (a .input .now) (a .variables) (w .closed) (w .few) (w .short) (r .within) (L .inv) (room-before r) _ (saw .0) (saw .1) (saw .2) (sym (c .before .before .before .before .before .cell-number3 .ensures) ∙ c .if1 .taken ∙ c .before .before .before .before .before .before .before .before .before .before .before .before .cell-number .ensures))
 
--- src/lib.rt:179:30
 mul-caller : tie.Need-mul-caller Inv-loop μ-loop
 mul-caller c =
     let L = c .before .before .before .before .before .before .before .before .before .before .before .loop in
@@ -314,7 +278,6 @@ mul-caller c =
     let m = cell-small (length (a .input .now)) _ _ (b .1) (b .2) (b .3) in
     omega (arith, c .before .before .before .before .before .cell-number3 .ensures)
 
--- src/lib.rt:179:30
 slice-read-caller : tie.Need-slice-read-caller Inv-loop μ-loop
 slice-read-caller c =
     let L = c .before .before .before .before .before .before .before .before .before .before .before .before .loop in
@@ -324,7 +287,6 @@ slice-read-caller c =
     let w = r .walkable in
     subst (λ (k : ℕ). k < length (L .work)) (sym (c .before .before .before .before .before .before .cell-number3 .ensures)) (in-work r (L .inv) (L .a) (L .p) (L .inv .within))
 
--- src/lib.rt:155:5
 loop-less-2 : tie.Need-loop-less-2 Inv-loop μ-loop
 loop-less-2 c =
     let L = c .before .before .before .before .before .before .before .before .before .before .before .before .loop in
@@ -335,7 +297,6 @@ loop-less-2 c =
     let saw = subst (Saw (ruleIn (a .rules .now)) (a .input .now) (L .table) (L .a at L .p)) (c .before .before .before .before .before .before .before .before .cell .given .1) (c .before .before .before .before .before .before .before .before .before .before .look-at .ensures) in
     rw (c .before .before .before .before .store2 .ensures ∙ ap (λ (k : ℕ). set (L .table) k (c .before .before .before .before .before .before .before .before .cell .given .0 .0 .0)) (c .before .before .before .before .before .before .cell-number3 .ensures)) (settle-falls (ruleIn (a .rules .now)) (a .input .now) (a .variables) (w .closed) (w .few) (w .short) (L .inv) (room-before r) _ (saw .0) (saw .1) (saw .2))
 
--- src/lib.rt:155:5
 loop-again-2 : tie.Need-loop-again-2 Inv-loop μ-loop
 loop-again-2 c =
     let L = c .before .before .before .before .before .before .before .before .before .before .before .before .loop in
