@@ -12,3 +12,4 @@ pub mod Derived
 pub mod Answered
 pub mod Named
 pub mod Stopped
+pub mod Call

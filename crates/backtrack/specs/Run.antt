@@ -1,7 +1,5 @@
 -- Document 01, "The backtracking machine": its call. Assumes nothing.
-use mathlib.Core.Bool.{false}
 use mathlib.Core.List.{List}
-use mathlib.Core.Option.{none, some}
 use mathlib.Core.Path.{_≡_}
 use Prim.Native.Nat.{ℕ, _/_}
 use lib.ListN.{length}
@@ -9,7 +7,7 @@ use Rattle.grammar.specs.Refusal.{Checked, refused, accepted}
 use Rattle.grammar.specs.Rule.{Rule}
 use Rattle.grammar.specs.Sheet.{Grammar}
 use Rattle.schema.specs.Derivation.{Pair, success, failure, missing, end, result, stopped}
-use Rattle.schema.specs.Handed.{Handed, handed}
+use Rattle.schema.specs.Handed.{asked, handed}
 use Rattle.schema.specs.Machine.{says, spent, noFrame, Ran, ran, machine}
 use Rattle.backtrack.specs.declared.Ending.{Ending}
 use Rattle.backtrack.specs.declared.Ending.the-variants.{Success, Failure, Missing, End, Spent, NoFrame, Refused}
@@ -23,10 +21,6 @@ told (End moves) = accepted (ran (says (stopped end)) moves)
 told (Spent moves) = accepted (ran spent moves)
 told (NoFrame moves) = accepted (ran noFrame moves)
 told (Refused number line) = refused number line
-
--- What a run is handed beside the sheet: the input and the pair in question.
-abbrev pub question : List ℕ → Pair → Handed
-question input x = record { input = input; verdict = false; pair = some x; slices = none; output = none }
 
 -- "its length divided by 3, rounded down, is the room, and its contents afterwards are free": the run with these rules on the pair x,
 -- the slice holding frames before it and frames′ after it.
@@ -42,4 +36,4 @@ Comes (accepted g) input x frames frames′ budget r = RunsTo (g .rule) input x 
 
 -- The promise of a run.
 abbrev pub Runs : List ℕ → List ℕ → Pair → List ℕ → List ℕ → ℕ → Ending → Type 0
-Runs sheet input x frames frames′ budget r = Comes (handed sheet (question input x)) input x frames frames′ budget r
+Runs sheet input x frames frames′ budget r = Comes (handed sheet (asked input x)) input x frames frames′ budget r

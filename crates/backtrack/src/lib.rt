@@ -1,6 +1,9 @@
 // The backtracking machine.
+use grammar::sheet::Rules;
+use grammar::sheet::Sheet;
 use schema::Act;
 use schema::act_at;
+use schema::admit;
 ghost use mathlib.Core.Bool.{cond};
 ghost use mathlib.Core.List.{List, _∷_};
 ghost use mathlib.Core.Path.{_≡_};
@@ -12,7 +15,7 @@ ghost use Rattle.grammar.specs.Words.{ruleIn};
 ghost use Rattle.schema.specs.Act.{told as does};
 ghost use Rattle.schema.specs.Derivation.{_at_, result, success, failure};
 ghost use Rattle.schema.specs.Machine.{Frame, frame, stage0, stage0Of, Next, step};
-ghost use Rattle.backtrack.specs.Run.{told, RunsTo};
+ghost use Rattle.backtrack.specs.Run.{told, RunsTo, Runs};
 ghost use Rattle.backtrack.specs.Frames.{flagOf, stackIn, stateIn, pushed, Valid, Says, Plans, atLast, Turns};
 
 // What a run ends with: an outcome (success with its end), spent or no frame, each with the moves made; or a refusal's number and line.
@@ -215,5 +218,24 @@ fn run_rules(
                 x = next;
             }
         }
+    }
+}
+
+// The machine's run on a question: its ending, or the first of refusals 1 to 6, 8 and 9 with the frames as they were.
+pub fn run(
+    sheet: &[u8],
+    input: &[u8],
+    variable: u32,
+    position: u32,
+    frames: &mut [u32],
+    budget: u32,
+) -> Ending
+    ensures { λ r. ⌜ Runs (now (sheet .entry)) (now (input .entry)) (variable at position) (now (frames .entry)) (now (frames .exit)) budget r ⌝ }
+{
+    let mut rules: Rules = [0u32; 256];
+    let admission = admit(sheet, input, variable, position, &mut rules);
+    match admission {
+        Sheet::Refused(number, line) => Ending::Refused(number, line),
+        Sheet::Read(_) => run_rules(&rules, input, variable, position, frames, budget),
     }
 }

@@ -15,3 +15,5 @@ pub mod Ready
 pub mod Questioned
 pub mod Endmarker
 pub mod Judged
+pub mod Result
+pub mod Promised

@@ -19,6 +19,12 @@ use Rattle.memo.specs.declared.Answer.the-variants.{Success, Failure, Lo
 pub data Reply : Type 0 where
   reply : Outcome → Pair → ℕ → Reply
 
+abbrev pub outcomeOf : Reply → Outcome
+outcomeOf (reply o z count) = o
+
+abbrev pub countOf : Reply → ℕ
+countOf (reply o z count) = count
+
 -- What each case of the answer says.
 abbrev pub told : Answer → Checked Reply
 told (Success q count) = accepted (reply (result (success q)) (0 at 0) count)

@@ -1,0 +1,132 @@
+-- The theorems of a question and of a verdict, about any result that meets the call's contract. Assumes nothing.
+use mathlib.Core.Path.{_≡_, refl, sym, ap, _∙_, subst}
+use mathlib.Core.Logic.{_↔_}
+use mathlib.Core.List.{List, [], _∷_, List·Memᴰ}
+use Prim.Native.Nat.{ℕ, _≤_}
+use native.Mathlib.Omega.{arith}
+use lib.ListN.{length}
+use Rattle.grammar.specs.Refusal.{Checked, refused, accepted}
+use Rattle.grammar.specs.Sheet.{Grammar}
+use Rattle.grammar.specs.Spelling.{text}
+use Rattle.grammar.proofs.Accepted.{grammar-in-range}
+use Rattle.schema.specs.Cases.{Case, cases, sheetH, header}
+use Rattle.schema.specs.Derivation.{_at_, success, Outcome, result, loop, Has}
+use Rattle.schema.specs.Handed.{Handed, handed, questionOf, verdictOf}
+use Rattle.schema.specs.Reached.{Reached, Number}
+use Rattle.schema.specs.Table.{Within, cells}
+use Rattle.schema.proofs.Cases.{cases-hold}
+use Rattle.schema.proofs.Handed.{handed-sheet, handed-pair, handed-slices}
+use Rattle.memo.specs.Answer.{Reply, reply, outcomeOf, countOf, told, Says, Replies, QuestionPromise}
+use Rattle.memo.specs.Verdict.{numbers, judged, Judges, VerdictPromise}
+use Rattle.memo.specs.declared.Answer.{Answer}
+use Rattle.memo.specs.declared.Judgement.{Judgement}
+use Rattle.memo.proofs.Result.{count-is, count-most, outcome-is, answer-is, one-answer, one-table}
+
+-- ---- The question.
+
+module _ (s input : List ℕ) (A p : ℕ) (table work : List ℕ) where
+  abbrev call : Handed
+  call = questionOf input (A at p) (length table) (length work)
+
+  module _ (g : Grammar) (accepts : handed s (questionOf input (A at p) (length table) (length work)) ≡ accepted g) where
+    within : Within (g .variables) (length input) A p
+    within = handed-pair s call g accepts (A at p) refl
+
+    room : cells (g .variables) (length input) ≤ length table
+    room = handed-slices s call g accepts (length table) (length work) refl .0
+
+    module _ (table′ work′ : List ℕ) (r : Answer) (promise : QuestionPromise s input A p table table′ work work′ r) where
+      said : Says (g .rule) (g .variables) input (A at p) table table′ work work′ (told r)
+      said = subst (λ (o : Checked Grammar). Replies o input (A at p) table table′ work work′ (told r)) accepts promise
+
+      -- The count of a reply is the number of reached pairs, at most V times (n + 1); the outcome is the one that the pair has.
+      pub question-reply : (a : Reply) × (told r ≡ accepted a) × Number (Reached (g .rule) input (A at p)) (countOf a)
+          × (countOf a ≤ cells (g .variables) (length input)) × ((o : Outcome) → Has (g .rule) input (A at p) o ↔ (outcomeOf a ≡ o))
+      question-reply = (
+        said .0,
+        said .1,
+        count-is s call g accepts (A at p) within room (said .2),
+        count-most s call g accepts (A at p) within room (said .2),
+        outcome-is s call g accepts (A at p) within room (said .2),
+      )
+
+  -- One result only: the same answer and the same table.
+  pub one-result : (table′ table″ work′ work″ : List ℕ) (r t : Answer) → QuestionPromise s input A p table table′ work work′ r
+      → QuestionPromise s input A p table table″ work work″ t → (told r ≡ told t) × (table′ ≡ table″)
+  one-result table′ table″ work′ work″ r t one other = by-sheet (handed s call) refl one other
+    where
+      by-sheet : (o : Checked Grammar) → handed s call ≡ o → Replies o input (A at p) table table′ work work′ (told r)
+          → Replies o input (A at p) table table″ work work″ (told t) → (told r ≡ told t) × (table′ ≡ table″)
+      by-sheet (refused x l) e m k = (m .0 ∙ sym (k .0), m .1 ∙ sym (k .1))
+      by-sheet (accepted g) e m k = (
+        m .1 ∙ ap accepted (one-answer s call g e (A at p) (within g e) (room g e) (m .2) (k .2)) ∙ sym (k .1),
+        one-table s call g e (A at p) (within g e) (room g e) (m .2) (k .2),
+      )
+
+-- Every marked case is answered as document 01 says.
+pub case-answered : (c : Case) → List·Memᴰ c cases → (table table′ work work′ : List ℕ) (r : Answer) → length table ≡ 1024 → length work ≡ 1024
+    → QuestionPromise (text (c .lines)) (c .input) 1 0 table table′ work work′ r → told r ≡ accepted (reply (c .outcome) (c .named) (c .count))
+case-answered c m table table′ work work′ r e f promise =
+    let h = cases-hold c m in
+    let s = text (c .lines) in
+    let g = h .grammar in
+    let accepts : handed s (questionOf (c .input) (1 at 0) (length table) (length work)) ≡ accepted g = rw (e, f) (h .reads) in
+    let a = said s (c .input) 1 0 table work g accepts table′ work′ r promise in
+    a .1 ∙ ap accepted (answer-is s (questionOf (c .input) (1 at 0) (length table) (length work)) g accepts (1 at 0) (within s (c .input) 1 0 table work g accepts)
+    (room s (c .input) 1 0 table work g accepts) (a .2) (c .outcome) (c .named) (c .count) (h .has) (h .names) (h .counts))
+
+-- Case a: "H, `-6.`: success ending 3, 5 cells".
+pub case-a : (table table′ work work′ : List ℕ) (r : Answer) → length table ≡ 1024 → length work ≡ 1024
+    → QuestionPromise (text sheetH) (45 ∷ 54 ∷ 46 ∷ []) 1 0 table table′ work work′ r → told r ≡ accepted (reply (result (success 3)) (0 at 0) 5)
+unfolding cases
+case-a table table′ work work′ r e f promise = case-answered _ (List·Memᴰ.List·Memᴰ·head refl) table table′ work work′ r e f promise
+
+-- Case g: "Rule 1 = 1(1,1), empty entry: loop, named (1, 0), 1 cell."
+pub case-g : (table table′ work work′ : List ℕ) (r : Answer) → length table ≡ 1024 → length work ≡ 1024
+    → QuestionPromise (text (header 1 ∷ (1 ∷ 4 ∷ 1 ∷ 1 ∷ 1 ∷ []) ∷ [])) [] 1 0 table table′ work work′ r → told r ≡ accepted (reply loop (1 at 0) 1)
+unfolding cases
+case-g table table′ work work′ r e f promise =
+    case-answered _ (List·Memᴰ.List·Memᴰ·tail (List·Memᴰ.List·Memᴰ·tail (List·Memᴰ.List·Memᴰ·tail (List·Memᴰ.List·Memᴰ·tail (List·Memᴰ.List·Memᴰ·tail (List·Memᴰ.List·Memᴰ·tail
+    (List·Memᴰ.List·Memᴰ·head refl))))))) table table′ work work′ r e f promise
+
+-- ---- The verdict.
+
+module _ (s input table work : List ℕ) where
+  abbrev asked : Handed
+  asked = verdictOf input (length table) (length work)
+
+  module _ (g : Grammar) (accepts : handed s (verdictOf input (length table) (length work)) ≡ accepted g) where
+    start-within : Within (g .variables) (length input) (g .start) 0
+    start-within = let b = grammar-in-range s g (handed-sheet s asked g accepts) in record { low = b .2; high = b .3; place = omega arith }
+
+    table-room : cells (g .variables) (length input) ≤ length table
+    table-room = handed-slices s asked g accepts (length table) (length work) refl .0
+
+    -- The numbers of a verdict are those of the outcome that the start variable at 0 has, with the number of reached pairs.
+    pub verdict-reply : (table′ work′ : List ℕ) (r : Judgement) → VerdictPromise s input table table′ work work′ r
+        → (a : Reply) × (numbers r ≡ judged (length input) (accepted a)) × Number (Reached (g .rule) input (g .start at 0)) (countOf a)
+        × ((o : Outcome) → Has (g .rule) input (g .start at 0) o ↔ (outcomeOf a ≡ o))
+    verdict-reply table′ work′ r promise =
+        let j = subst (λ (o : Checked Grammar). Judges o input table table′ work work′ (numbers r)) accepts promise in
+        let a = j .2 in (
+          a .0,
+          j .1 ∙ ap (judged (length input)) (a .1),
+          count-is s asked g accepts (g .start at 0) start-within table-room (a .2),
+          outcome-is s asked g accepts (g .start at 0) start-within table-room (a .2),
+        )
+
+  -- One verdict only: the same numbers and the same table.
+  pub one-verdict : (table′ table″ work′ work″ : List ℕ) (r t : Judgement) → VerdictPromise s input table table′ work work′ r
+      → VerdictPromise s input table table″ work work″ t → (numbers r ≡ numbers t) × (table′ ≡ table″)
+  one-verdict table′ table″ work′ work″ r t one other = by-sheet (handed s asked) refl one other
+    where
+      by-sheet : (o : Checked Grammar) → handed s asked ≡ o → Judges o input table table′ work work′ (numbers r)
+          → Judges o input table table″ work work″ (numbers t) → (numbers r ≡ numbers t) × (table′ ≡ table″)
+      by-sheet (refused x l) e m k = (m .0 ∙ sym (k .0), m .1 ∙ sym (k .1))
+      by-sheet (accepted g) e m k =
+          let a = m .2 in
+          let b = k .2 in
+          let same = one-answer s asked g e (g .start at 0) (start-within g e) (table-room g e) (a .2) (b .2) in (
+            m .1 ∙ ap (judged (length input)) (a .1 ∙ ap accepted same ∙ sym (b .1)) ∙ sym (k .1),
+            one-table s asked g e (g .start at 0) (start-within g e) (table-room g e) (a .2) (b .2),
+          )

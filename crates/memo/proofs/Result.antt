@@ -1,0 +1,138 @@
+-- What holds of any result that meets the promise of a question. Assumes nothing.
+use mathlib.Core.Path.{_≡_, refl, sym, ap, _∙_, subst}
+use mathlib.Core.Bool.{Bool, true, false}
+use mathlib.Core.Logic.{_≢_, _↔_}
+use mathlib.Core.List.{List}
+use Prim.Native.Nat.{ℕ, zero, suc, _+_, _-_, _/_, _%_, _≤_, _<_}
+use native.Mathlib.Decide.{ℕ-discrete}
+use native.Mathlib.Numerals.{add-one}
+use native.Mathlib.Omega.{arith}
+use lib.Dec.{ltb}
+use lib.ListN.{length, getD, take, drop}
+use lib.Seq.{getD-drop, ext-getD}
+use borrow.Author.Tests.{ltb-true, ltb-false}
+use Rattle.calls.proofs.Count.{Count, none, hit, miss, count-map, count-le}
+use Rattle.grammar.specs.Refusal.{accepted}
+use Rattle.grammar.specs.Sheet.{Grammar}
+use Rattle.schema.specs.Closed.{Closed}
+use Rattle.schema.specs.Derivation.{Pair, success, failure, missing, end, Outcome, result, stopped, loop, Has}
+use Rattle.schema.specs.Handed.{Handed, handed}
+use Rattle.schema.specs.Reached.{Reached, Named, Number}
+use Rattle.schema.specs.Table.{cells, held, decided, code}
+use Rattle.schema.proofs.Answer.{reached-cell}
+use Rattle.schema.proofs.Cell.{pairOf, cell-pair, pair-within, PairWithin}
+use Rattle.schema.proofs.Counted.{number-cells}
+use Rattle.schema.proofs.Handed.{handed-sheet}
+use Rattle.schema.proofs.Laws.{has-one, named-one, number-one}
+use Rattle.schema.proofs.SheetClosed.{sheet-closed}
+use Rattle.memo.specs.Answer.{Reply, reply, outcomeOf, countOf, Answers}
+use Rattle.memo.proofs.Decided.{decided-none, decided-blank, decided-more}
+
+-- The count of decided cells counts the cells that are not blank.
+decided-count : (T : List ℕ) (m : ℕ) → m ≤ length T → Count (λ i. getD T i 0 ≢ 0) m (decided (take m T))
+decided-count T zero l = subst (Count (λ i. getD T i 0 ≢ 0) 0) (sym (decided-none T)) none
+decided-count T (suc m) l =
+    let before = decided-count T m (omega arith) in
+    elim (ℕ-discrete (getD T m 0) 0) [
+      | yes e ↦ rw (← add-one m, decided-blank T m (omega arith) e) (rw (add-one m) (miss (λ d. d e) before))
+      | no d ↦ rw (← add-one m, decided-more T m (omega arith) d, add-one (decided (take m T)), add-one m) (hit d before)
+    ]
+
+some-code : (o : Outcome) → code o ≢ 0
+some-code (result (success q)) e = omega arith
+some-code (result failure) e = omega arith
+some-code (stopped missing) e = omega arith
+some-code (stopped end) e = omega arith
+some-code loop e = omega arith
+
+later-same : (k : ℕ) (T : List ℕ) (i : ℕ) → k ≤ i → getD T i 0 ≡ getD (drop k T) (i - k) 0
+later-same k T i l = let e : k + (i - k) ≡ i = omega arith in sym (getD-drop k T (i - k) 0 ∙ ap (λ (j : ℕ). getD T j 0) e)
+
+-- ---- Of an answer, whatever call gave it.
+
+module _ (s : List ℕ) (h : Handed) (g : Grammar) (accepts : handed s h ≡ accepted g) (x : Pair) (within : PairWithin (g .variables) (length (h .input)) x) where
+  abbrev input : List ℕ
+  input = h .input
+
+  abbrev n : ℕ
+  n = length (h .input)
+
+  abbrev size : ℕ
+  size = cells (g .variables) (length (h .input))
+
+  closed : Closed (g .variables) (g .rule)
+  closed = sheet-closed s g (handed-sheet s h g accepts)
+
+  at-cell : (T : List ℕ) (i : ℕ) → held n T (pairOf n i) ≡ getD T i 0
+  at-cell T i = ap (λ (k : ℕ). getD T k 0) (cell-pair n i)
+
+  module _ {table table′ work work′ : List ℕ} {a : Reply} (room : cells (g .variables) (length (h .input)) ≤ length table)
+      (answers : Answers (g .rule) (g .variables) (h .input) x table table′ work work′ a) where
+    -- A cell is blank exactly if its pair is not reached.
+    filled : (i : ℕ) → i < size → (getD table′ i 0 ≢ 0) ↔ Reached (g .rule) input x (pairOf n i)
+    filled i l =
+        let e = at-cell table′ i in (
+          λ d. answers .leaves .others (i / (n + 1) + 1) (i % (n + 1)) (pair-within (g .variables) n i l) (λ q. d (sym e ∙ q)),
+          λ r. let k = answers .leaves .holds (pairOf n i) r in λ q. some-code (k .0) (sym (k .2) ∙ e ∙ q),
+        )
+
+    counted : Count (λ i. Reached (g .rule) input x (pairOf n i)) size (decided (take size table′))
+    counted = count-map filled (decided-count table′ size (subst (λ (k : ℕ). size ≤ k) (sym (answers .leaves .size)) room))
+
+    -- The count is the number of reached pairs,
+    pub count-is : Number (Reached (g .rule) (h .input) x) (countOf a)
+    count-is =
+        subst (Number (Reached (g .rule) input x)) (sym (ap countOf (answers .says)))
+        (number-cells (g .variables) n (Reached (g .rule) input x) (λ y r. reached-cell (g .rule) input (g .variables) closed x within r .0) counted)
+
+    -- and at most V times (n + 1).
+    pub count-most : countOf a ≤ cells (g .variables) (length (h .input))
+    count-most = subst (λ (k : ℕ). k ≤ size) (sym (ap countOf (answers .says))) (count-le counted)
+
+    -- A pair has the outcome that is answered, and no other.
+    pub outcome-is : (o : Outcome) → Has (g .rule) (h .input) x o ↔ (outcomeOf a ≡ o)
+    outcome-is o =
+        let e : outcomeOf a ≡ answers .outcome = ap outcomeOf (answers .says) in
+        (λ d. e ∙ has-one (g .rule) input x (answers .outcome) o (answers .has) d, λ q. subst (Has (g .rule) input x) (sym e ∙ q) (answers .has))
+
+    -- What is answered, by the outcome, the named pair and the number of reached pairs.
+    pub answer-is : (o : Outcome) (z : Pair) (c : ℕ) → Has (g .rule) (h .input) x o → Named (g .rule) (h .input) x o z → Number (Reached (g .rule) (h .input) x) c → a ≡ reply o z c
+    answer-is o z c d named number =
+        let p : answers .outcome ≡ o = has-one (g .rule) input x (answers .outcome) o (answers .has) d in
+        let q : answers .named ≡ z = named-one (g .rule) input x (answers .named) z o (subst (λ (u : Outcome). Named (g .rule) input x u (answers .named)) p (answers .names)) named in
+        let k : countOf a ≡ c = number-one count-is number in
+        let e = answers .says in
+        let f : countOf a ≡ decided (take size table′) = ap countOf e in
+        let m : decided (take size table′) ≡ c = sym f ∙ k in
+        cc
+
+  -- Two answers to one question are the same, with the same table.
+  module _ {table table′ table″ work work′ work″ : List ℕ} {a b : Reply} (room : cells (g .variables) (length (h .input)) ≤ length table)
+      (one : Answers (g .rule) (g .variables) (h .input) x table table′ work work′ a)
+      (other : Answers (g .rule) (g .variables) (h .input) x table table″ work work″ b) where
+    pub one-answer : a ≡ b
+    one-answer =
+        let e : b ≡ reply (other .outcome) (other .named) (countOf b) = answer-is room other (other .outcome) (other .named) (countOf b) (other .has) (other .names) (count-is room other) in
+        answer-is room one (other .outcome) (other .named) (countOf b) (other .has) (other .names) (count-is room other) ∙ sym e
+
+    same-cell : (i : ℕ) → i < size → getD table′ i 0 ≡ getD table″ i 0
+    same-cell i l = elim (ℕ-discrete (getD table′ i 0) 0) [
+      | yes e ↦ elim (ℕ-discrete (getD table″ i 0) 0) [
+        | yes f ↦ e ∙ sym f
+        | no d ↦ absurd (filled room one i l .1 (filled room other i l .0 d) e)
+      ]
+      | no d ↦ let r = filled room one i l .0 d in
+          let p = one .leaves .holds (pairOf n i) r in
+          let q = other .leaves .holds (pairOf n i) r in
+          let o = has-one (g .rule) input (pairOf n i) (p .0) (q .0) (p .1) (q .1) in
+          sym (at-cell table′ i) ∙ p .2 ∙ ap code o ∙ sym (q .2) ∙ at-cell table″ i
+    ]
+
+    pub one-table : table′ ≡ table″
+    one-table = ext-getD 0 table′ table″ (one .leaves .size ∙ sym (other .leaves .size)) λ i l. by-test i (ltb i size) refl
+      where
+        by-test : (i : ℕ) (t : Bool) → ltb i size ≡ t → getD table′ i 0 ≡ getD table″ i 0
+        by-test i true e = same-cell i (ltb-true i size e)
+        by-test i false e =
+            let l = ltb-false i size e in
+            later-same size table′ i l ∙ ap (λ (k : List ℕ). getD k (i - size) 0) (one .leaves .later ∙ sym (other .leaves .later)) ∙ sym (later-same size table″ i l)
