@@ -13,4 +13,5 @@ pub mod Held
 pub mod Told
 pub mod Text
 pub mod Spelled
+pub mod Conditions
 pub mod SheetRefusals

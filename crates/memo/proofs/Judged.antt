@@ -6,7 +6,7 @@ use Prim.Native.Nat.{ℕ, _≤_}
 use native.Mathlib.Omega.{arith}
 use lib.Dec.{ltb}
 use lib.ListN.{length}
-use Rattle.grammar.specs.Refusal.{Checked, refused, accepted, checked}
+use Rattle.grammar.specs.Refusal.{Checked, refused, accepted}
 use Rattle.grammar.specs.Sheet.{Grammar, sheet}
 use Rattle.grammar.specs.Promise.{SheetPromise, stored}
 use Rattle.grammar.specs.Words.{ruleIn}
@@ -17,21 +17,13 @@ use Rattle.grammar.proofs.Accepted.{grammar-in-range}
 use Rattle.grammar.proofs.Held.{rules-held}
 use Rattle.grammar.proofs.Told.{Reads, told-refused, told-read}
 use Rattle.schema.specs.Derivation.{_at_}
-use Rattle.schema.specs.Handed.{handed, verdictOf, callFaults}
+use Rattle.schema.specs.Handed.{handed, verdictOf}
 use Rattle.schema.specs.Table.{Within, cells}
 use Rattle.schema.specs.Verdict.{closedBy}
-use Rattle.schema.proofs.Admission.{handed-then, handed-refused}
+use Rattle.schema.proofs.Admission.{handed-refused, verdict-by}
 use Rattle.memo.specs.Answer.{Reply, Says, AskReady}
 use Rattle.memo.specs.Verdict.{judged, Judges}
 use Rattle.memo.proofs.Ready.{few-variables, ready, says-of}
-
--- A verdict by its tests for 6, 7 and 10.
-verdict-by : (s input : List ℕ) (g : Grammar) (table work : ℕ) (a b c : Bool) → sheet s ≡ accepted g
-    → ltb 4096 (length input) ≡ a → closedBy (g .endmarker) input ≡ b
-    → (ltb table (cells (g .variables) (length input)) || ltb work (cells (g .variables) (length input))) ≡ c
-    → handed s (verdictOf input table work) ≡ cond a (refused 6 0) (cond (not b) (refused 7 0) (cond c (refused 10 0) (accepted g)))
-unfolding checked callFaults
-verdict-by s input g table work a b c e k l m = handed-then s (verdictOf input table work) g e ∙ rw (k, l, m)
 
 module _ {s before after : List ℕ} {r : Sheet} (promise : SheetPromise s before after r) (input table work : List ℕ) where
   -- Refused with the sheet.

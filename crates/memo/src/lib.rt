@@ -220,7 +220,7 @@ fn blank(table: &mut [u32], size: usize)
 {
     let mut i: usize = 0;
     while i < size {
-        table[i] = Cell::BLANK.0;
+        Cell::BLANK.store(table, i);
         i += 1;
     }
 }
@@ -233,7 +233,7 @@ fn count_decided(table: &[u32], size: usize) -> u32
     let mut count: u32 = 0;
     let mut i: usize = 0;
     while i < size {
-        if table[i] != Cell::BLANK.0 {
+        if Cell::load(table, i).0 != Cell::BLANK.0 {
             count += 1;
         }
         i += 1;

@@ -12,8 +12,9 @@ use Rattle.grammar.specs.Promise.{told, lineOne, stored}
 use Rattle.grammar.specs.declared.sheet.Sheet.{Sheet}
 use Rattle.grammar.proofs.Refusals.{refused-first, first-then, accepted-clear, accepted-same, clear-then}
 use Rattle.schema.specs.Derivation.{_at_}
-use Rattle.schema.specs.Handed.{Handed, callFaults, handed, asked, questionOf}
+use Rattle.schema.specs.Handed.{Handed, callFaults, handed, asked, questionOf, verdictOf}
 use Rattle.schema.specs.Table.{cells}
+use Rattle.schema.specs.Verdict.{closedBy}
 use Rattle.schema.specs.Admission.{Admission}
 
 -- The sheet's refusal is the call's;
@@ -78,3 +79,13 @@ module _ (s input : List ℕ) (A p table work : ℕ) where
           subst Follows (sym (handed-refused s (asked input (A at p)) x l h) ∙ e) (handed-refused s (questionOf input (A at p) table work) x l h)
       by-sheet (accepted g) h =
           by-tests g (ltb 4096 (length input)) (within 1 (g .variables) A) (ltb (length input) p) h refl refl refl (sym (asked-by s input g A p h refl refl refl) ∙ e)
+
+-- ---- The verdict.
+
+-- A verdict by its tests for 6, 7 and 10.
+pub verdict-by : (s input : List ℕ) (g : Grammar) (table work : ℕ) (a b c : Bool) → sheet s ≡ accepted g
+    → ltb 4096 (length input) ≡ a → closedBy (g .endmarker) input ≡ b
+    → (ltb table (cells (g .variables) (length input)) || ltb work (cells (g .variables) (length input))) ≡ c
+    → handed s (verdictOf input table work) ≡ cond a (refused 6 0) (cond (not b) (refused 7 0) (cond c (refused 10 0) (accepted g)))
+unfolding checked callFaults
+verdict-by s input g table work a b c e k l m = handed-then s (verdictOf input table work) g e ∙ rw (k, l, m)

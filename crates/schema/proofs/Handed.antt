@@ -12,7 +12,7 @@ use Rattle.grammar.specs.Refusal.{accepted}
 use Rattle.grammar.specs.Rule.{within}
 use Rattle.grammar.specs.Sheet.{Grammar, grammarOf, sheetFaults, sheet}
 use Rattle.schema.specs.Derivation.{Pair, _at_}
-use Rattle.schema.specs.Handed.{Handed, tested, variableOut, positionOut, callFaults, handed}
+use Rattle.schema.specs.Handed.{Handed, tested, pairVariableOut, pairPositionOut, callFaults, handed}
 use Rattle.schema.specs.Table.{cells}
 use Rattle.grammar.proofs.Refusals.{Clear, clear-append, accepted-clear, accepted-same}
 use Rattle.grammar.proofs.Fitting.{within-bounds}
@@ -56,8 +56,8 @@ module _ (s : List ℕ) (h : Handed) (g : Grammar) (e : handed s h ≡ accepted 
   handed-pair (A at p) q =
       let v = g .variables in
       let n = length (h .input) in
-      let a = tested-is (h .pair) (variableOut v) (A at p) q (call-clear .1 .1 .0) in
-      let b = tested-is (h .pair) (positionOut n) (A at p) q (call-clear .1 .1 .1 .0) in
+      let a = tested-is (h .pair) (pairVariableOut v) (A at p) q (call-clear .1 .1 .0) in
+      let b = tested-is (h .pair) (pairPositionOut n) (A at p) q (call-clear .1 .1 .1 .0) in
       let i = within-bounds 1 v A (not-false (within 1 v A) a) in
       record { low = i .0; high = i .1; place = ltb-false n p b }
 

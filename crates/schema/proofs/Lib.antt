@@ -9,6 +9,7 @@ pub mod Answer
 pub mod Counted
 pub mod Walk
 pub mod Handed
+pub mod CallRefusals
 pub mod Admission
 pub mod Admitted
 pub mod SheetClosed

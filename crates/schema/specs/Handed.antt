@@ -1,13 +1,13 @@
 -- Document 01, "Who can bring on which number": what a call is handed, and its refusals 6 to 11. Assumes nothing.
-use mathlib.Core.Bool.{Bool, true, false, not, _&&_, _||_}
+use mathlib.Core.Bool.{Bool, true, false, cond, not, _&&_, _||_}
 use mathlib.Core.List.{List, [], _∷_, _++_}
 use mathlib.Core.Option.{Option, none, some}
 use Prim.Native.Nat.{ℕ, _*_}
-use lib.Dec.{ltb}
+use lib.Dec.{ltb, eqb}
 use lib.ListN.{length}
 use Rattle.grammar.specs.Refusal.{Checked, Fault, fault, checked}
 use Rattle.grammar.specs.Rule.{within}
-use Rattle.grammar.specs.Sheet.{Grammar, grammarOf, sheetFaults}
+use Rattle.grammar.specs.Sheet.{Grammar, grammarOf, condition, sheetFaults}
 use Rattle.schema.specs.Derivation.{Pair, _at_}
 use Rattle.schema.specs.Table.{cells}
 use Rattle.schema.specs.Verdict.{closedBy}
@@ -26,25 +26,58 @@ abbrev pub tested : {A : Type 0} → Option A → (A → Bool) → Bool
 tested none out = false
 tested (some a) out = out a
 
--- "8, variable not in 1 to V. 9, place above n."
-abbrev pub variableOut : ℕ → Pair → Bool
-variableOut v (A at p) = not (within 1 v A)
+-- "6, entry over 4,096."
+abbrev pub inputLong : Handed → Bool
+inputLong h = ltb 4096 (length (h .input))
 
-abbrev pub positionOut : ℕ → Pair → Bool
-positionOut n (A at p) = ltb n p
+-- "7, verdict only: the endmarker isn't the last byte or stands earlier too; an empty entry."
+abbrev pub endmarkerOut : Grammar → Handed → Bool
+endmarkerOut g h = h .verdict && not (closedBy (g .endmarker) (h .input))
 
--- "6, entry over 4,096. 7, verdict only: the endmarker isn't the last byte or stands earlier too; an empty entry."
--- "10, table or work slice under V times (n + 1). 11, output under 49 times V times (n + 1)."
+-- "8, variable not in 1 to V."
+abbrev pub pairVariableOut : ℕ → Pair → Bool
+pairVariableOut v (A at p) = not (within 1 v A)
+
+-- "9, place above n."
+abbrev pub pairPositionOut : ℕ → Pair → Bool
+pairPositionOut n (A at p) = ltb n p
+
+-- "10, table or work slice under V times (n + 1)."
+abbrev pub slicesShort : ℕ → ℕ × ℕ → Bool
+slicesShort count l = ltb (l .0) count || ltb (l .1) count
+
+-- "11, output under 49 times V times (n + 1)."
+abbrev pub outputShort : ℕ → ℕ → Bool
+outputShort count l = ltb l (49 * count)
+
+-- The condition of a refusal by its number.
+unfoldable pub callCondition : Grammar → Handed → ℕ → Bool
+callCondition g h number =
+    let n = length (h .input) in
+    let count = cells (g .variables) n in
+    cond (eqb number 6) (inputLong h)
+    (cond (eqb number 7) (endmarkerOut g h)
+    (cond (eqb number 8) (tested (h .pair) (pairVariableOut (g .variables)))
+    (cond (eqb number 9) (tested (h .pair) (pairPositionOut n))
+    (cond (eqb number 10) (tested (h .slices) (slicesShort count))
+    (cond (eqb number 11) (tested (h .output) (outputShort count))
+    false)))))
+
+-- The condition of a refusal by its number, at a line: 1 to 5 are the sheet's, 6 to 11 the call's.
+unfoldable pub handedCondition : List ℕ → Handed → ℕ → ℕ → Bool
+handedCondition s h number line = cond (ltb number 6) (condition s number line) (callCondition (grammarOf s) h number)
+
+-- "then 6, 7, 8, 9, 10, 11"
 unfoldable pub callFaults : Grammar → Handed → List Fault
 callFaults g h =
     let n = length (h .input) in
     let count = cells (g .variables) n in
-    fault 6 0 (ltb 4096 n)
-    ∷ fault 7 0 (h .verdict && not (closedBy (g .endmarker) (h .input)))
-    ∷ fault 8 0 (tested (h .pair) (variableOut (g .variables)))
-    ∷ fault 9 0 (tested (h .pair) (positionOut n))
-    ∷ fault 10 0 (tested (h .slices) λ l. ltb (l .0) count || ltb (l .1) count)
-    ∷ fault 11 0 (tested (h .output) λ l. ltb l (49 * count))
+    fault 6 0 (inputLong h)
+    ∷ fault 7 0 (endmarkerOut g h)
+    ∷ fault 8 0 (tested (h .pair) (pairVariableOut (g .variables)))
+    ∷ fault 9 0 (tested (h .pair) (pairPositionOut n))
+    ∷ fault 10 0 (tested (h .slices) (slicesShort count))
+    ∷ fault 11 0 (tested (h .output) (outputShort count))
     ∷ []
 
 -- "Order: 1 over the sheet; line 1 for 2, 3; each next line for 2, 4, 5; then 6, 7, 8, 9, 10, 11."
