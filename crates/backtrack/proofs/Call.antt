@@ -10,7 +10,7 @@ use Rattle.grammar.specs.Refusal.{accepted}
 use Rattle.grammar.specs.Sheet.{Grammar}
 use Rattle.grammar.specs.Spelling.{text}
 use Rattle.schema.specs.Cases.{Case, cases, firstPair}
-use Rattle.schema.specs.Derivation.{Pair, Result, Derives, Loops, Outcome, result, Has}
+use Rattle.schema.specs.Derivation.{Pair, Result, Derives, Stop, Stops, Loops, Outcome, result, stopped, Has}
 use Rattle.schema.specs.Handed.{asked, handed, questionOf}
 use Rattle.schema.specs.Machine.{says, spent, noFrame, Ran, ran, machine}
 use Rattle.schema.proofs.Admitted.{question-accepted}
@@ -20,6 +20,7 @@ use Rattle.backtrack.specs.Run.{told, Comes, Runs}
 use Rattle.backtrack.specs.declared.Ending.{Ending}
 use Rattle.backtrack.proofs.Answered.{Answered, answered, out-of-moves, out-of-frames, machine-answers}
 use Rattle.backtrack.proofs.Named.{named, on-loop}
+use Rattle.backtrack.proofs.Stopped.{stop-named}
 
 -- The ending names the outcome, after any number of moves.
 abbrev pub Names : Ending → Outcome → Type 0
@@ -74,6 +75,15 @@ module _ (sheet input : List ℕ) (x : Pair) (frames frames′ : List ℕ) (budg
   -- The outcome that it names is the pair's outcome.
   pub call-agrees : (o q : Outcome) → Names r o → Has (g .rule) input x q → o ≡ q
   call-agrees o q n h = has-one (g .rule) input x o q (call-derived o n) h
+
+-- Every missing rule and every end of the input is named, lent enough moves and frames.
+pub call-stops : (sheet input : List ℕ) (x : Pair) (g : Grammar) → handed sheet (asked input x) ≡ accepted g → {w : Stop} → Stops (g .rule) input w x
+    → (moves : ℕ) × (room : ℕ) × ((frames frames′ : List ℕ) (budget : ℕ) (r : Ending) → Runs sheet input x frames frames′ budget r
+    → moves ≤ budget → room ≤ length frames / 3 → told r ≡ accepted (ran (says (stopped w)) moves))
+call-stops sheet input x g e {w} t =
+    let n = stop-named (g .rule) input t in
+    (n .0, n .1, λ frames frames′ budget r runs m k.
+      call-says sheet input x frames frames′ budget r runs g e ∙ ap (λ (a : Ran). accepted a) (n .2 budget (length frames / 3) m k))
 
 -- On each of the marked cases, lent its budget and its room, the call says what the case gives.
 pub cases-run : (c : Case) → List·Memᴰ c cases → (frames frames′ : List ℕ) (r : Ending) → length frames / 3 ≡ c .room

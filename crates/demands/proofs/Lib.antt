@@ -1,0 +1,2 @@
+-- What the demands ask of the calls together.
+pub mod Agreement

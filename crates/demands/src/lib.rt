@@ -1,0 +1,1 @@
+// What the demands ask of the calls together: proofs only.
