@@ -8,7 +8,7 @@ use native.Mathlib.Omega.{arith}
 use lib.ListN.{length}
 use Rattle.grammar.specs.Refusal.{accepted}
 use Rattle.grammar.specs.Sheet.{Grammar}
-use Rattle.grammar.specs.Spelling.{text}
+use Rattle.grammar.specs.Printing.{text}
 use Rattle.schema.specs.Cases.{Case, cases, firstPair}
 use Rattle.schema.specs.Derivation.{Pair, Result, Derives, Stop, Stops, Loops, Outcome, result, stopped, Has}
 use Rattle.schema.specs.Handed.{asked, handed, questionOf}
@@ -81,9 +81,12 @@ pub call-stops : (sheet input : List ℕ) (x : Pair) (g : Grammar) → handed sh
     → (moves : ℕ) × (room : ℕ) × ((frames frames′ : List ℕ) (budget : ℕ) (r : Ending) → Runs sheet input x frames frames′ budget r
     → moves ≤ budget → room ≤ length frames / 3 → told r ≡ accepted (ran (says (stopped w)) moves))
 call-stops sheet input x g e {w} t =
-    let n = stop-named (g .rule) input t in
-    (n .0, n .1, λ frames frames′ budget r runs m k.
-      call-says sheet input x frames frames′ budget r runs g e ∙ ap (λ (a : Ran). accepted a) (n .2 budget (length frames / 3) m k))
+    let n = stop-named (g .rule) input t in (
+      n .0,
+      n .1,
+      λ frames frames′ budget r runs m k.
+          call-says sheet input x frames frames′ budget r runs g e ∙ ap (λ (a : Ran). accepted a) (n .2 budget (length frames / 3) m k),
+    )
 
 -- On each of the marked cases, lent its budget and its room, the call says what the case gives.
 pub cases-run : (c : Case) → List·Memᴰ c cases → (frames frames′ : List ℕ) (r : Ending) → length frames / 3 ≡ c .room

@@ -47,6 +47,7 @@ number (b ∷ bs) = cond (eqb b 32) (number bs) (cond (eqb b 48) (zeroThen bs) (
 unfoldable pub field : ℕ → List ℕ → ℕ → Option ℕ
 field w s at = cond (leb (at + w) (length s)) (number (slice at (at + w) s)) none
 
+-- A number before other numbers; none where either is none.
 abbrev pub consTo : Option ℕ → Option (List ℕ) → Option (List ℕ)
 consTo none xs = none
 consTo (some x) none = none
@@ -57,8 +58,7 @@ unfoldable pub fields : ℕ → ℕ → List ℕ → ℕ → Option (List ℕ)
 fields zero w s at = some []
 fields (suc k) w s at = consTo (field w s at) (fields k w s (at + w))
 
--- ---- "Reading a field yields its number and the position of the next field."
-
+-- "Reading a field yields its number and the position of the next field."
 abbrev pub reads : ℕ → List ℕ → ℕ → Option (ℕ × ℕ)
 reads w s at = Option·map (λ x. (x, at + w)) (field w s at)
 

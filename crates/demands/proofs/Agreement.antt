@@ -18,8 +18,8 @@ use Rattle.backtrack.specs.declared.Ending.{Ending}
 use Rattle.backtrack.proofs.Call.{Names, call-derived, call-on-loop}
 
 module _ (s input : List ℕ) (A p : ℕ) (table table′ work work′ : List ℕ) (answer : Answer) (promise : QuestionPromise s input A p table table′ work work′ answer)
-         (frames frames′ : List ℕ) (budget : ℕ) (ending : Ending) (runs : run.Runs s input (A at p) frames frames′ budget ending)
-         (g : Grammar) (accepts : handed s (questionOf input (A at p) (length table) (length work)) ≡ accepted g) where
+    (frames frames′ : List ℕ) (budget : ℕ) (ending : Ending) (runs : run.Runs s input (A at p) frames frames′ budget ending)
+    (g : Grammar) (accepts : handed s (questionOf input (A at p) (length table) (length work)) ≡ accepted g) where
   machine-accepts : handed s (asked input (A at p)) ≡ accepted g
   machine-accepts = question-accepted s (questionOf input (A at p) (length table) (length work)) g A p accepts refl
 

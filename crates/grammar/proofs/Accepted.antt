@@ -37,15 +37,15 @@ lines-fit s n (suc k) c (suc i) l =
     subst (LineFits s) e (lines-fit s (suc n) k (c .1 .1 .1) i (omega arith))
 
 -- All that an accepted sheet is.
-pub record Spells (s : List ℕ) (g : Grammar) : Type 0 where
+pub record Describes (s : List ℕ) (g : Grammar) : Type 0 where
   pub grammar-is : grammarOf s ≡ g
   pub whole : Whole s
   pub in-range : InRange s
   pub fit : (i : ℕ) → i < lines s - 1 → LineFits s (i + 2)
 
-pub spells : (s : List ℕ) (g : Grammar) → sheet s ≡ accepted g → Spells s g
+pub describes : (s : List ℕ) (g : Grammar) → sheet s ≡ accepted g → Describes s g
 unfolding sheet sheetFaults
-spells s g e =
+describes s g e =
     let same = accepted-same (sheetFaults s) (grammarOf s) g e in
     let c = accepted-clear (sheetFaults s) (grammarOf s) .0 (e ∙ ap accepted (sym same)) in
     record {
@@ -127,18 +127,18 @@ module _ (s : List ℕ) (fit : (i : ℕ) → i < lines s - 1 → LineFits s (i +
 
 pub grammar-fits : (s : List ℕ) (g : Grammar) → sheet s ≡ accepted g → (A : ℕ) → Fits (g .variables) (g .rule A)
 grammar-fits s g e A =
-    let p = spells s g e in
+    let p = describes s g e in
     subst (λ (h : Grammar). Fits (h .variables) (h .rule A)) (p .grammar-is) (within-fits s (p .fit) (lines s - 1) A (omega arith))
 
 pub grammar-absent : (s : List ℕ) (g : Grammar) → sheet s ≡ accepted g → (A : ℕ) → ((1 ≤ A) × (A ≤ g .variables) → ⊥) → g .rule A ≡ absent
 grammar-absent s g e A n =
-    let p = spells s g e in
+    let p = describes s g e in
     subst (λ (h : Grammar). ((1 ≤ A) × (A ≤ h .variables) → ⊥) → h .rule A ≡ absent) (p .grammar-is) (within-absent s (p .fit) (lines s - 1) A (omega arith)) n
 
 -- V is 1 to 256, and the start variable is one of them.
 pub grammar-in-range : (s : List ℕ) (g : Grammar) → sheet s ≡ accepted g → (1 ≤ g .variables) × (g .variables ≤ 256) × (1 ≤ g .start) × (g .start ≤ g .variables)
 grammar-in-range s g e =
-    let p = spells s g e in
+    let p = describes s g e in
     let r = p .in-range in
     subst (λ (h : Grammar). (1 ≤ h .variables) × (h .variables ≤ 256) × (1 ≤ h .start) × (h .start ≤ h .variables)) (p .grammar-is)
     (r .variables-in .0, r .variables-in .1, r .start-in .0, r .start-in .1)

@@ -12,6 +12,6 @@ pub mod Accepted
 pub mod Held
 pub mod Told
 pub mod Text
-pub mod Spelled
+pub mod Printed
 pub mod Conditions
 pub mod SheetRefusals

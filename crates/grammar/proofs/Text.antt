@@ -12,7 +12,7 @@ use borrow.Author.Tests.{eq-eqb, ne-eqb, le-ltb}
 use Rattle.columns.specs.Column.{column, row, fields}
 use Rattle.columns.proofs.Rows.{Fit, column-length, row-length, row-read}
 use Rattle.grammar.specs.Sheet.{lines, lineAt, openLine, notLines}
-use Rattle.grammar.specs.Spelling.{text}
+use Rattle.grammar.specs.Printing.{text}
 use Rattle.grammar.proofs.Ends.{no-lines, line-ended}
 
 -- Each line has five numbers that fit their columns.

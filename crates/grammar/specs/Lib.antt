@@ -3,7 +3,7 @@ pub mod Refusal
 pub mod Class
 pub mod Rule
 pub mod Sheet
-pub mod Spelling
+pub mod Printing
 pub mod Words
 pub mod Promise
 pub mod Reading

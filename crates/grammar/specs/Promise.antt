@@ -23,6 +23,7 @@ abbrev pub stored : Checked Grammar → List ℕ → List ℕ
 stored (refused number line) before = before
 stored (accepted g) before = words (g .rule)
 
+-- What the sheet reader promises: its answer, and the array.
 pub record SheetPromise (s before after : List ℕ) (r : Sheet) : Type 0 where
   pub says : told r ≡ lineOne (sheet s)
   pub stores : after ≡ stored (sheet s) before

@@ -38,6 +38,7 @@ abbrev pub headerSays : Header → Checked (List ℕ)
 headerSays (header.Read g) = accepted (g .variables ∷ g .start ∷ g .endmarker ∷ [])
 headerSays (header.Refused number) = refused number 1
 
+-- The first refusal of line 1, or its numbers.
 unfoldable pub headerFound : List ℕ → Checked (List ℕ)
 headerFound s = checked (fault 2 1 (malformed s 1) ∷ fault 3 1 (headerOut s) ∷ []) (variablesOf s ∷ startOf s ∷ endmarkerOf s ∷ [])
 
@@ -46,6 +47,7 @@ abbrev pub lineSays : ℕ → RuleLine → Checked (List ℕ)
 lineSays n (line.Rule A w) = accepted (A ∷ w ∷ [])
 lineSays n (line.Refused number) = refused number n
 
+-- The first refusal of a rule line, or its variable and word.
 unfoldable pub lineFound : List ℕ → ℕ → Checked (List ℕ)
 lineFound s n =
     checked (fault 2 n (malformed s n) ∷ fault 4 n (variableOut s n) ∷ fault 5 n (ruleOut s n) ∷ [])
@@ -64,9 +66,11 @@ abbrev pub rulesSay : RuleLines → Checked (Unit {0})
 rulesSay rules.Read = accepted tt
 rulesSay (rules.Refused number n) = refused number n
 
+-- The first refusal of the rule lines.
 unfoldable pub rulesFound : List ℕ → Checked (Unit {0})
 rulesFound s = checked (ruleFaults s 2 (lines s - 1)) tt
 
+-- The array after the rule lines; free where one is refused.
 abbrev pub Stored : List ℕ → RuleLines → List ℕ → Type 0
 Stored s rules.Read after = after ≡ words (ruleWithin s (lines s - 1))
 Stored s (rules.Refused number n) after = Unit {0}

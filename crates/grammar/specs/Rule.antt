@@ -11,6 +11,7 @@ pub data Rule : Type 0 where
   class : ℕ → Rule
   call : ℕ → ℕ → ℕ → Rule
 
+-- x is one of low to high.
 abbrev pub within : ℕ → ℕ → ℕ → Bool
 within low high x = leb low x && leb x high
 
@@ -18,6 +19,7 @@ within low high x = leb low x && leb x high
 abbrev pub unused : ℕ → Bool
 unused x = eqb x 0
 
+-- The rule, if its operands fit.
 abbrev pub fitting : Bool → Rule → Option Rule
 fitting fits r = cond fits (some r) none
 

@@ -19,6 +19,7 @@ lines s = length s / 26
 unfoldable pub lineAt : List ℕ → ℕ → Option (List ℕ)
 lineAt s line = fields 5 5 s (26 * (line - 1))
 
+-- Nothing is there.
 abbrev pub isNone : {A : Type 0} → Option A → Bool
 isNone none = true
 isNone (some a) = false
@@ -29,17 +30,21 @@ numberAt s line i = getD (Option·getD (lineAt s line) []) i 0
 
 -- ---- "Line 1: V, the count of variables (1 to 256); the start variable (1 to V); the endmarker byte (0 to 255); 0; 0."
 
+-- "V, the count of variables"
 abbrev pub variablesOf : List ℕ → ℕ
 variablesOf s = numberAt s 1 0
 
+-- "the start variable"
 abbrev pub startOf : List ℕ → ℕ
 startOf s = numberAt s 1 1
 
+-- "the endmarker byte"
 abbrev pub endmarkerOf : List ℕ → ℕ
 endmarkerOf s = numberAt s 1 2
 
 -- ---- "Each further line: variable (rising), kind, three operands."
 
+-- The variable of a line.
 abbrev pub variableAt : List ℕ → ℕ → ℕ
 variableAt s line = numberAt s line 0
 
@@ -47,6 +52,7 @@ variableAt s line = numberAt s line 0
 abbrev pub variableBefore : List ℕ → ℕ → ℕ
 variableBefore s line = cond (eqb line 2) 0 (variableAt s (line - 1))
 
+-- The rule of a line, if its kind and operands fit.
 abbrev pub ruleAt : List ℕ → ℕ → Option Rule
 ruleAt s line = ruleOf (variablesOf s) (numberAt s line 1) (numberAt s line 2) (numberAt s line 3) (numberAt s line 4)
 
@@ -62,6 +68,7 @@ pub record Grammar : Type 0 where
   pub endmarker : ℕ
   pub rule : ℕ → Rule
 
+-- What these bytes say, read as a sheet.
 abbrev pub grammarOf : List ℕ → Grammar
 grammarOf s = record { variables = variablesOf s; start = startOf s; endmarker = endmarkerOf s; rule = ruleWithin s (lines s - 1) }
 
@@ -112,9 +119,10 @@ ruleFaults s line zero = []
 ruleFaults s line (suc k) =
     fault 2 line (malformed s line) ∷ fault 4 line (variableOut s line) ∷ fault 5 line (ruleOut s line) ∷ ruleFaults s (suc line) k
 
+-- All refusals of a sheet, in their order.
 unfoldable pub sheetFaults : List ℕ → List Fault
 sheetFaults s = fault 1 0 (notLines s) ∷ fault 2 1 (malformed s 1) ∷ fault 3 1 (headerOut s) ∷ ruleFaults s 2 (lines s - 1)
 
--- The grammar that a sheet spells, or its first refusal.
+-- The grammar that a sheet describes, or its first refusal.
 unfoldable pub sheet : List ℕ → Checked Grammar
 sheet s = checked (sheetFaults s) (grammarOf s)

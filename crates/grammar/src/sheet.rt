@@ -1,4 +1,4 @@
-// Reads a rule sheet: the grammar that it spells, or its first refusal.
+// Reads a rule sheet: the grammar that it describes, or its first refusal.
 ghost use mathlib.Core.Path.{_≡_};
 ghost use mathlib.Core.Option.{Option·map};
 ghost use Prim.Native.Nat.{_*_, _≤_};

@@ -68,10 +68,10 @@ module _ {s before after : List ℕ} {r : Sheet} (promise : SheetPromise s befor
       pub judges : {table′ work′ numbers : List ℕ} {t : Checked Reply} → a ≡ false → b ≡ true → c ≡ false
           → Says (ruleIn after) (l .variables) input (l .start at 0) table table′ work work′ t → numbers ≡ judged (length input) t
           → Judges (handed s (verdictOf input (length table) (length work))) input table table′ work work′ numbers
-      judges {table′} {work′} {numbers} {t} f g h said n =
+      judges {table′} {work′} {numbers} {t} f g h answered n =
           rw (follows, f, g, h) (
             t,
             n,
             subst (λ (A : ℕ). Says (read .grammar .rule) (read .grammar .variables) input (A at 0) table table′ work work′ t) (sym (read .start-is))
-                (says-of s (read .grammar) (read .accepts) (read .variables-are) rules-are input (l .start at 0) table table′ work work′ t said),
+                (says-of s (read .grammar) (read .accepts) (read .variables-are) rules-are input (l .start at 0) table table′ work work′ t answered),
           )

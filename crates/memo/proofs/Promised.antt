@@ -7,7 +7,7 @@ use native.Mathlib.Omega.{arith}
 use lib.ListN.{length}
 use Rattle.grammar.specs.Refusal.{Checked, refused, accepted}
 use Rattle.grammar.specs.Sheet.{Grammar}
-use Rattle.grammar.specs.Spelling.{text}
+use Rattle.grammar.specs.Printing.{text}
 use Rattle.grammar.proofs.Accepted.{grammar-in-range}
 use Rattle.schema.specs.Cases.{Case, cases, sheetH, header}
 use Rattle.schema.specs.Derivation.{_at_, success, Outcome, result, loop, Has}
@@ -36,18 +36,18 @@ module _ (s input : List ℕ) (A p : ℕ) (table work : List ℕ) where
     room = handed-slices s call g accepts (length table) (length work) refl .0
 
     module _ (table′ work′ : List ℕ) (r : Answer) (promise : QuestionPromise s input A p table table′ work work′ r) where
-      said : Says (g .rule) (g .variables) input (A at p) table table′ work work′ (told r)
-      said = subst (λ (o : Checked Grammar). Replies o input (A at p) table table′ work work′ (told r)) accepts promise
+      answered : Says (g .rule) (g .variables) input (A at p) table table′ work work′ (told r)
+      answered = subst (λ (o : Checked Grammar). Replies o input (A at p) table table′ work work′ (told r)) accepts promise
 
       -- The count of a reply is the number of reached pairs, at most V times (n + 1); the outcome is the one that the pair has.
       pub question-reply : (a : Reply) × (told r ≡ accepted a) × Number (Reached (g .rule) input (A at p)) (countOf a)
           × (countOf a ≤ cells (g .variables) (length input)) × ((o : Outcome) → Has (g .rule) input (A at p) o ↔ (outcomeOf a ≡ o))
       question-reply = (
-        said .0,
-        said .1,
-        count-is s call g accepts (A at p) within room (said .2),
-        count-most s call g accepts (A at p) within room (said .2),
-        outcome-is s call g accepts (A at p) within room (said .2),
+        answered .0,
+        answered .1,
+        count-is s call g accepts (A at p) within room (answered .2),
+        count-most s call g accepts (A at p) within room (answered .2),
+        outcome-is s call g accepts (A at p) within room (answered .2),
       )
 
   -- One result only: the same answer and the same table.
@@ -71,7 +71,7 @@ case-answered c m table table′ work work′ r e f promise =
     let s = text (c .lines) in
     let g = h .grammar in
     let accepts : handed s (questionOf (c .input) (1 at 0) (length table) (length work)) ≡ accepted g = rw (e, f) (h .reads) in
-    let a = said s (c .input) 1 0 table work g accepts table′ work′ r promise in
+    let a = answered s (c .input) 1 0 table work g accepts table′ work′ r promise in
     a .1 ∙ ap accepted (answer-is s (questionOf (c .input) (1 at 0) (length table) (length work)) g accepts (1 at 0) (within s (c .input) 1 0 table work g accepts)
     (room s (c .input) 1 0 table work g accepts) (a .2) (c .outcome) (c .named) (c .count) (h .has) (h .names) (h .counts))
 

@@ -19,9 +19,11 @@ use Rattle.memo.specs.declared.Answer.the-variants.{Success, Failure, Lo
 pub data Reply : Type 0 where
   reply : Outcome → Pair → ℕ → Reply
 
+-- The outcome of a reply.
 abbrev pub outcomeOf : Reply → Outcome
 outcomeOf (reply o z count) = o
 
+-- Its count of decided cells.
 abbrev pub countOf : Reply → ℕ
 countOf (reply o z count) = count
 
@@ -46,6 +48,7 @@ pub record Answers (rule : ℕ → Rule) (v : ℕ) (input : List ℕ) (x : Pair)
   pub beyond : drop (cells v (length input)) work′ ≡ drop (cells v (length input)) work
   pub size : length work′ ≡ length work
 
+-- A reply, and not a refusal, that answers.
 abbrev pub Says : (ℕ → Rule) → ℕ → List ℕ → Pair → List ℕ → List ℕ → List ℕ → List ℕ → Checked Reply → Type 0
 Says rule v input x table table′ work work′ r = (a : Reply) × (r ≡ accepted a) × Answers rule v input x table table′ work work′ a
 

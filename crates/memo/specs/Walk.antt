@@ -25,11 +25,12 @@ pub record Unsettled (c : ℕ) : Type 0 where
   pub no-failure : c ≢ 1
   pub no-success : c < 5
 
--- A cell that holds the result r, on n bytes.
+-- The end of a result is a position of the n bytes.
 abbrev pub Ends : ℕ → Result → Type 0
 Ends n (success q) = q ≤ n
 Ends n failure = Unit {0}
 
+-- A cell that holds the result r, on n bytes.
 pub record Settled (n c : ℕ) (r : Result) : Type 0 where
   pub code-is : c ≡ code (result r)
   pub ends : Ends n r
@@ -109,6 +110,7 @@ pub record KeptTable (rule : ℕ → Rule) (s : List ℕ) (v : ℕ) (O : List �
 abbrev pub before : ℕ → Pair → List ℕ → List ℕ
 before n x T = set T (cell n x) 0
 
+-- What the walk asks: the asked pair open in a kept table, and room for a caller of each cell.
 pub record WalkReady (rule : ℕ → Rule) (s : List ℕ) (v A p : ℕ) (T W : List ℕ) : Type 0 where
   pub walkable : Walkable rule s v T
   pub within : Within v (length s) A p
@@ -120,19 +122,21 @@ pub record WalkReady (rule : ℕ → Rule) (s : List ℕ) (v A p : ℕ) (T W : L
 abbrev pub resultOf : ℕ → Result
 resultOf c = cond (eqb c 1) failure (success (c - 5))
 
--- What each case of the walk's answer says: the outcome, the named pair, and the pair where it stopped.
+-- What each case of the walk's answer says: the outcome.
 abbrev pub outcomeOf : Walk → Outcome
 outcomeOf (walk.Settled c) = result (resultOf (c .0))
 outcomeOf (walk.Loop A p B q) = loop
 outcomeOf (walk.Missing A p) = stopped missing
 outcomeOf (walk.End A p) = stopped end
 
+-- The named pair.
 abbrev pub namedOf : Walk → Pair
 namedOf (walk.Settled c) = 0 at 0
 namedOf (walk.Loop A p B q) = A at p
 namedOf (walk.Missing A p) = A at p
 namedOf (walk.End A p) = A at p
 
+-- The open pair where the walk stopped, the last one opened first.
 abbrev pub StopsAt : Walk → List Pair → Type 0
 StopsAt (walk.Settled c) opens = opens ≡ []
 StopsAt (walk.Loop A p B q) opens = (ps : List Pair) × (opens ≡ (B at q) ∷ ps)

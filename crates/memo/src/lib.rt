@@ -25,17 +25,22 @@ use schema::admit;
 pub struct Cell(pub u32);
 
 impl Cell {
+    // "0 for blank"
     pub const BLANK: Cell = Cell(0);
 
+    // "1 for failure"
     pub const FAILURE: Cell = Cell(1);
 
+    // "2 loop"
     pub const LOOP: Cell = Cell(2);
 
+    // "3 missing"
     pub const MISSING: Cell = Cell(3);
 
+    // "4 end"
     pub const END: Cell = Cell(4);
 
-    // The code of success ending at 0.
+    // "5 + q for success ending at q", at 0.
     pub const SUCCESS: Cell = Cell(5);
 
     // A pair that is asked and not decided yet, above every code.
@@ -49,6 +54,7 @@ impl Cell {
         Cell(Cell::SUCCESS.0 + end)
     }
 
+    // The cell of a number.
     fn load(table: &[u32], index: usize) -> Cell
         requires { ⌜ index < length (now table) ⌝ }
         ensures { λ r. ⌜ r .0 ≡ getD (now (table .entry)) index 0 ⌝ }
@@ -56,6 +62,7 @@ impl Cell {
         Cell(table[index])
     }
 
+    // Puts the cell at a number.
     fn store(self, table: &mut [u32], index: usize)
         requires { ⌜ index < length (now table) ⌝ }
         ensures { λ _. ⌜ now (table .exit) ≡ set (now (table .entry)) index (self .0) ⌝ }
@@ -190,15 +197,9 @@ fn walk_from(
                 a = b;
                 p = q;
             }
-            Look::Again(b, q) => {
-                return Walk::Loop(b, q, a, p);
-            }
-            Look::Missing => {
-                return Walk::Missing(a, p);
-            }
-            Look::End => {
-                return Walk::End(a, p);
-            }
+            Look::Again(b, q) => return Walk::Loop(b, q, a, p),
+            Look::Missing => return Walk::Missing(a, p),
+            Look::End => return Walk::End(a, p),
             Look::Settle(cell) => {
                 let index = cell_number(n, a, p);
                 cell.store(table, index);
@@ -322,61 +323,31 @@ fn open_asked(n: usize, variables: u32, variable: u32, position: u32, table: &mu
     Cell::OPEN.store(table, cell_number(n, variable, position));
 }
 
-// Closes what the walk left open, and answers.
+// Closes what the walk left open, and answers; asked at place is the asked pair.
 fn finish(
     n: usize,
     variables: u32,
-    variable: u32,
-    position: u32,
+    asked: u32,
+    place: u32,
     end: Walk,
     table: &mut [u32],
     work: &[u32],
 ) -> Answer
-    requires { ⌜ FinishReady n variables variable position (now table) (now work) end ⌝ }
+    requires { ⌜ FinishReady n variables asked place (now table) (now work) end ⌝ }
     ensures { λ r. ⌜ Finishes n variables end (now (table .entry)) (now (table .exit)) r ⌝ }
 {
     match end {
         Walk::Settled(cell) => settled(cell, count_decided(table, variables as usize * (n + 1))),
         Walk::Loop(b, q, a, p) => {
-            let count = close_all(
-                n,
-                variables,
-                variable,
-                position,
-                a,
-                p,
-                Cell::LOOP,
-                table,
-                work,
-            );
+            let count = close_all(n, variables, asked, place, a, p, Cell::LOOP, table, work);
             Answer::Loop(b, q, count)
         }
         Walk::Missing(a, p) => {
-            let count = close_all(
-                n,
-                variables,
-                variable,
-                position,
-                a,
-                p,
-                Cell::MISSING,
-                table,
-                work,
-            );
+            let count = close_all(n, variables, asked, place, a, p, Cell::MISSING, table, work);
             Answer::Missing(a, p, count)
         }
         Walk::End(a, p) => {
-            let count = close_all(
-                n,
-                variables,
-                variable,
-                position,
-                a,
-                p,
-                Cell::END,
-                table,
-                work,
-            );
+            let count = close_all(n, variables, asked, place, a, p, Cell::END, table, work);
             Answer::End(a, p, count)
         }
     }

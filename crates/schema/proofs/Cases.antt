@@ -18,7 +18,7 @@ use Rattle.grammar.specs.Class.{classIn, classOf}
 use Rattle.grammar.specs.Refusal.{Checked, refused, accepted, Fault, fault, checked}
 use Rattle.grammar.specs.Rule.{Rule, ruleOf}
 use Rattle.grammar.specs.Sheet.{Grammar, grammarOf, lineAt, ruleWithin, openLine, notLines, headerOut, variableOut, ruleFaults, sheetFaults}
-use Rattle.grammar.specs.Spelling.{text}
+use Rattle.grammar.specs.Printing.{text}
 use Rattle.schema.specs.Cases.{Case, cases, firstPair, Derived, judged, CaseHolds}
 use Rattle.schema.specs.Derivation.{Pair, Result, Stop, Outcome, result, actOf, Has}
 use Rattle.schema.specs.Handed.{Handed, callFaults, handed, questionOf, verdictOf}

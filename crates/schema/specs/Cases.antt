@@ -7,7 +7,7 @@ use lib.ListN.{length}
 use Rattle.grammar.specs.Refusal.{Checked, refused, accepted}
 use Rattle.grammar.specs.Rule.{Rule}
 use Rattle.grammar.specs.Sheet.{Grammar}
-use Rattle.grammar.specs.Spelling.{text}
+use Rattle.grammar.specs.Printing.{text}
 use Rattle.schema.specs.Derivation.{Pair, _at_, success, failure, missing, end, Derives, Outcome, result, stopped, loop, Has}
 use Rattle.schema.specs.Handed.{handed, questionOf, verdictOf}
 use Rattle.schema.specs.Machine.{says, spent, noFrame, Ran, ran, machine}
@@ -28,6 +28,7 @@ pub record Case : Type 0 where
   pub run : Ran
   pub verdict : Checked ℕ
 
+-- A case by its parts.
 abbrev pub case : List (List ℕ) → List ℕ → ℕ → ℕ → Outcome → Pair → ℕ → Option (ℕ × ℕ) → Ran → Checked ℕ → Case
 case lines input budget room outcome named count steps run verdict =
     record {
@@ -59,6 +60,7 @@ sheetH =
 abbrev pub header : ℕ → List ℕ
 header v = v ∷ 1 ∷ 46 ∷ 0 ∷ 0 ∷ []
 
+-- The list.
 unfoldable pub cases : List Case
 cases =
     -- "a. H, `-6.`: success ending 3, 5 cells, k 5, 9 moves, 3 frames."

@@ -22,6 +22,7 @@ lineOf (A at p) failure i j = line A p 1 p i j
 abbrev pub lineBytes : Line → List ℕ
 lineBytes (line A p flag e i j) = row 8 (A ∷ p ∷ flag ∷ e ∷ i ∷ j ∷ [])
 
+-- Lines one after another.
 unfoldable pub linesBytes : List Line → List ℕ
 linesBytes [] = []
 linesBytes (l ∷ ls) = lineBytes l ++ linesBytes ls

@@ -11,6 +11,7 @@ use Rattle.schema.specs.Derivation.{Pair, _at_, Result, success, failure
 pub data Flag : Type 0 where
   s f : Flag
 
+-- "stage 0", "stage 1", "stage 2"
 pub data Stage : Type 0 where
   stage0 stage1 stage2 : Stage
 
@@ -22,9 +23,11 @@ pub data Frame : Type 0 where
 pub data State : Type 0 where
   state : Flag → ℕ → ℕ → List Frame → State
 
+-- The moves made.
 abbrev pub movesOf : State → ℕ
 movesOf (state flag p moves stack) = moves
 
+-- The stack.
 abbrev pub stackOf : State → List Frame
 stackOf (state flag p moves stack) = stack
 
@@ -38,12 +41,13 @@ abbrev pub popped : Result → ℕ → ℕ → List Frame → State
 popped (success q) p moves stack = state s q moves stack
 popped failure p moves stack = state f p moves stack
 
--- The operands C and D of a kind 4 rule; no other rule is at stage 1.
+-- The operand C of a kind 4 rule; no other rule is at stage 1.
 abbrev pub operandC : Act → ℕ
 operandC (gives r) = 0
 operandC (stops w) = 0
 operandC (calls B C D) = C
 
+-- The operand D.
 abbrev pub operandD : Act → ℕ
 operandD (gives r) = 0
 operandD (stops w) = 0
@@ -56,6 +60,7 @@ stage0Of (gives r) flag X i p moves stack = move (popped r p (moves + 1) stack)
 stage0Of (calls B C D) flag X i p moves stack = move (state flag p (moves + 1) (frame B p stage0 ∷ frame X i stage1 ∷ stack))
 
 module _ (rule : ℕ → Rule) (input : List ℕ) where
+  -- One step.
   unfoldable pub step : State → Next
   -- "empty stack: success ending at the place if s, failure if f"
   step (state s p moves []) = outcome (result (success p))
@@ -71,12 +76,13 @@ module _ (rule : ℕ → Rule) (input : List ℕ) where
   step (state f p moves (frame X i stage2 ∷ stack)) = move (state f i (moves + 1) stack)
 
 -- "The result carries the outcome, the end on success, and the moves", or spent or no frame in place of an outcome.
-pub data Said : Type 0 where
-  says : Outcome → Said
-  spent noFrame : Said
+pub data RunOutcome : Type 0 where
+  says : Outcome → RunOutcome
+  spent noFrame : RunOutcome
 
+-- What a run ends with, and its moves.
 pub data Ran : Type 0 where
-  ran : Said → ℕ → Ran
+  ran : RunOutcome → ℕ → Ran
 
 module _ (rule : ℕ → Rule) (input : List ℕ) where
   -- "before each step: an outcome if there is one, then spent if moves equal the budget, then no frame if a push lacks room";

@@ -1,4 +1,4 @@
--- Every sheet that spells a grammar is read as that grammar. Assumes nothing.
+-- Every sheet that is printed from a grammar is read as that grammar. Assumes nothing.
 use mathlib.Core.Path.{_≡_, refl, ap, _∙_, fun-ext}
 use mathlib.Core.Bool.{Bool, true, false, cond}
 use mathlib.Core.List.{List, [], _∷_}
@@ -12,7 +12,7 @@ use Rattle.columns.proofs.Rows.{Fit}
 use Rattle.grammar.specs.Refusal.{accepted}
 use Rattle.grammar.specs.Rule.{Rule, absent, always, never, byte, class, call, ruleOf, Fits}
 use Rattle.grammar.specs.Sheet.{lines, lineAt, variablesOf, variableAt, variableBefore, ruleAt, ruleWithin, grammarOf, notLines, malformed, headerOut, variableOut, ruleFaults, sheetFaults, sheet}
-use Rattle.grammar.specs.Spelling.{text, headerNumbers, ruleNumbers, ruleRows, spelled, listed, listedGrammar, Rising, Spellable}
+use Rattle.grammar.specs.Printing.{text, headerNumbers, ruleNumbers, ruleRows, printed, listed, listedGrammar, Rising, Printable}
 use Rattle.grammar.proofs.Fitting.{within-both}
 use Rattle.grammar.proofs.Refusals.{Clear, accepted-clear}
 use Rattle.grammar.proofs.Text.{Lines, LinesAt, text-read, text-lines, text-ended}
@@ -121,7 +121,7 @@ module _ (s : List ℕ) (few : variablesOf s ≤ 256) where
 
 -- ---- The whole sheet.
 
-module _ {v start endmarker : ℕ} {rules : List (ℕ × Rule)} (p : Spellable v start endmarker rules) where
+module _ {v start endmarker : ℕ} {rules : List (ℕ × Rule)} (p : Printable v start endmarker rules) where
   text-rows : Lines (headerNumbers v start endmarker ∷ ruleRows rules)
   text-rows =
       let a = p .variables-in in
@@ -130,10 +130,10 @@ module _ {v start endmarker : ℕ} {rules : List (ℕ × Rule)} (p : Spellable v
       (refl, omega arith, rows-fit v 0 rules (a .1) (p .rules-in))
 
   -- Lines that are read as the numbers of a grammar are that grammar's sheet.
-  lines-spell : (s : List ℕ) → notLines s ≡ false → lines s - 1 ≡ length rules → lineAt s 1 ≡ some (headerNumbers v start endmarker)
+  lines-printed : (s : List ℕ) → notLines s ≡ false → lines s - 1 ≡ length rules → lineAt s 1 ≡ some (headerNumbers v start endmarker)
       → LinesAt s 2 (ruleRows rules) → sheet s ≡ accepted (listedGrammar v start endmarker rules)
   unfolding sheet sheetFaults headerOut ruleWithin
-  lines-spell s whole count line rest =
+  lines-printed s whole count line rest =
       let a = p .variables-in in
       let b = p .start-in in
       let c = p .endmarker-in in
@@ -149,14 +149,14 @@ module _ {v start endmarker : ℕ} {rules : List (ℕ × Rule)} (p : Spellable v
       accepted-clear (sheetFaults s) (grammarOf s) .1 clear
       ∙ rw line (ap (λ (f : ℕ → Rule). accepted (record { variables = v; start = start; endmarker = endmarker; rule = f })) rules-are)
 
-  -- A sheet that spells a grammar is read as that grammar.
-  pub spelled-read : sheet (spelled v start endmarker rules) ≡ accepted (listedGrammar v start endmarker rules)
-  unfolding spelled
-  spelled-read =
+  -- A sheet that is printed from a grammar is read as that grammar.
+  pub printed-read : sheet (printed v start endmarker rules) ≡ accepted (listedGrammar v start endmarker rules)
+  unfolding printed
+  printed-read =
       let rows = headerNumbers v start endmarker ∷ ruleRows rules in
       let few = p .variables-in .1 in
       let n : length (ruleRows rules) ≡ length rules = length-map rules (λ r. ruleNumbers (r .0) (r .1)) in
       let m : length rules + 0 ≤ v = rows-few v 0 rules (omega arith) (p .rules-in) in
       let l = text-lines rows text-rows in
       let read = text-read rows text-rows in
-      lines-spell (text rows) (text-ended rows text-rows (omega arith) (omega arith)) (omega arith) (read .0) (read .1)
+      lines-printed (text rows) (text-ended rows text-rows (omega arith) (omega arith)) (omega arith) (read .0) (read .1)

@@ -1,4 +1,4 @@
--- Document 01, "The rule sheet": the sheet that spells a grammar. Assumes nothing.
+-- Document 01, "The rule sheet": the sheet that is printed from a grammar. Assumes nothing.
 use mathlib.Core.Bool.{cond}
 use mathlib.Core.List.{List, [], _∷_, _++_, map}
 use mathlib.Core.Path.{_≡_}
@@ -26,18 +26,20 @@ ruleNumbers A (byte b) = A ∷ 2 ∷ b ∷ 0 ∷ 0 ∷ []
 ruleNumbers A (class c) = A ∷ 3 ∷ c ∷ 0 ∷ 0 ∷ []
 ruleNumbers A (call B C D) = A ∷ 4 ∷ B ∷ C ∷ D ∷ []
 
+-- The numbers of each rule line.
 abbrev pub ruleRows : List (ℕ × Rule) → List (List ℕ)
 ruleRows rules = map (λ r. ruleNumbers (r .0) (r .1)) rules
 
 -- The sheet of V, the start variable, the endmarker byte, and the variables that have a rule, each with its rule.
-unfoldable pub spelled : ℕ → ℕ → ℕ → List (ℕ × Rule) → List ℕ
-spelled v start endmarker rules = text (headerNumbers v start endmarker ∷ ruleRows rules)
+unfoldable pub printed : ℕ → ℕ → ℕ → List (ℕ × Rule) → List ℕ
+printed v start endmarker rules = text (headerNumbers v start endmarker ∷ ruleRows rules)
 
 -- "A variable with no line has no rule": the rule of variable A among these.
 unfoldable pub listed : List (ℕ × Rule) → ℕ → Rule
 listed [] A = absent
 listed (r ∷ rs) A = cond (eqb A (r .0)) (r .1) (listed rs A)
 
+-- The grammar of these rules.
 abbrev pub listedGrammar : ℕ → ℕ → ℕ → List (ℕ × Rule) → Grammar
 listedGrammar v start endmarker rules = record { variables = v; start = start; endmarker = endmarker; rule = listed rules }
 
@@ -47,7 +49,7 @@ Rising v before [] = Unit {0}
 Rising v before (r ∷ rs) = (before < r .0) × (r .0 ≤ v) × Fits v (r .1) × (r .1 ≡ absent → ⊥) × Rising v (r .0) rs
 
 -- "V (1 to 256); the start variable (1 to V); the endmarker byte (0 to 255)"
-pub record Spellable (v start endmarker : ℕ) (rules : List (ℕ × Rule)) : Type 0 where
+pub record Printable (v start endmarker : ℕ) (rules : List (ℕ × Rule)) : Type 0 where
   pub variables-in : (1 ≤ v) × (v ≤ 256)
   pub start-in : (1 ≤ start) × (start ≤ v)
   pub endmarker-in : endmarker ≤ 255
