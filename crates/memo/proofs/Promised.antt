@@ -36,18 +36,19 @@ module _ (s input : List ℕ) (A p : ℕ) (table work : List ℕ) where
     room = handed-slices s call g accepts (length table) (length work) refl .0
 
     module _ (table′ work′ : List ℕ) (r : Answer) (promise : QuestionPromise s input A p table table′ work work′ r) where
-      answered : Says (g .rule) (g .variables) input (A at p) table table′ work work′ (told r)
-      answered = subst (λ (o : Checked Grammar). Replies o input (A at p) table table′ work work′ (told r)) accepts promise
+      -- What is not refused is answered.
+      pub question-answers : Says (g .rule) (g .variables) input (A at p) table table′ work work′ (told r)
+      question-answers = subst (λ (o : Checked Grammar). Replies o input (A at p) table table′ work work′ (told r)) accepts promise
 
       -- The count of a reply is the number of reached pairs, at most V times (n + 1); the outcome is the one that the pair has.
       pub question-reply : (a : Reply) × (told r ≡ accepted a) × Number (Reached (g .rule) input (A at p)) (countOf a)
           × (countOf a ≤ cells (g .variables) (length input)) × ((o : Outcome) → Has (g .rule) input (A at p) o ↔ (outcomeOf a ≡ o))
       question-reply = (
-        answered .0,
-        answered .1,
-        count-is s call g accepts (A at p) within room (answered .2),
-        count-most s call g accepts (A at p) within room (answered .2),
-        outcome-is s call g accepts (A at p) within room (answered .2),
+        question-answers .0,
+        question-answers .1,
+        count-is s call g accepts (A at p) within room (question-answers .2),
+        count-most s call g accepts (A at p) within room (question-answers .2),
+        outcome-is s call g accepts (A at p) within room (question-answers .2),
       )
 
   -- One result only: the same answer and the same table.
@@ -71,7 +72,7 @@ case-answered c m table table′ work work′ r e f promise =
     let s = text (c .lines) in
     let g = h .grammar in
     let accepts : handed s (questionOf (c .input) (1 at 0) (length table) (length work)) ≡ accepted g = rw (e, f) (h .reads) in
-    let a = answered s (c .input) 1 0 table work g accepts table′ work′ r promise in
+    let a = question-answers s (c .input) 1 0 table work g accepts table′ work′ r promise in
     a .1 ∙ ap accepted (answer-is s (questionOf (c .input) (1 at 0) (length table) (length work)) g accepts (1 at 0) (within s (c .input) 1 0 table work g accepts)
     (room s (c .input) 1 0 table work g accepts) (a .2) (c .outcome) (c .named) (c .count) (h .has) (h .names) (h .counts))
 
