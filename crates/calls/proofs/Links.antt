@@ -25,7 +25,7 @@ pub data Linked (name : ℕ → ℕ) (up : List ℕ) : List ℕ → Type 0 where
   more : {x y : ℕ} {s : List ℕ} → getD up y 0 ≡ name x → Linked name up (x ∷ s) → Linked name up (y ∷ x ∷ s)
 
 -- A store elsewhere leaves the callers,
-linked-set : {name : ℕ → ℕ} {up : List ℕ} {s : List ℕ} (y v : ℕ) → ¬ In y s → Linked name up s → Linked name (set up y v) s
+pub linked-set : {name : ℕ → ℕ} {up : List ℕ} {s : List ℕ} (y v : ℕ) → ¬ In y s → Linked name up s → Linked name (set up y v) s
 linked-set y v n none = none
 linked-set y v n last = last
 linked-set {up = up} y v n (more {x = x} {y = z} e l) = more (getD-set-other up y z v 0 (λ r. n (inl (sym r))) ∙ e) (linked-set y v (λ i. n (inr i)) l)

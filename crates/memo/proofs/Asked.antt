@@ -18,7 +18,7 @@ use Rattle.memo.specs.declared.Walk.the-variants as walk
 use Rattle.memo.proofs.Cleared.{cleared, cleared-length, cleared-at, cleared-later, before-is, walk-ready}
 use Rattle.memo.proofs.Finished.{close-ready, no-open, answers}
 
-code-of : (n c : ℕ) (r : Result) → Settled n c r → Code c
+pub code-of : (n c : ℕ) (r : Result) → Settled n c r → Code c
 code-of n c failure m = inl (m .code-is)
 code-of n c (success q) m = let e = m .code-is in inr (omega arith)
 
@@ -28,7 +28,7 @@ module _ {rule : ℕ → Rule} {s : List ℕ} {v A p : ℕ} {T W : List ℕ} (r 
   pub may-walk : WalkReady rule s v A p T₁ W
   may-walk = rw e (walk-ready rule s v A p (r .closed) (r .few) (r .short) (r .within) T W (r .room) (r .work-room))
 
-  before-cleared : before (length s) (A at p) T₁ ≡ cleared (cells v (length s)) T
+  pub before-cleared : before (length s) (A at p) T₁ ≡ cleared (cells v (length s)) T
   before-cleared =
       ap (before (length s) (A at p)) e ∙ before-is rule s v A p (r .closed) (r .few) (r .short) (r .within) T W (r .room) (r .work-room)
 

@@ -114,7 +114,7 @@ module _ (rule : ℕ → Rule) (s : List ℕ) (v : ℕ) (closed : Closed v rule)
     }
 
 -- A settled code stands for its result.
-result-is : (n c : ℕ) (r : Result) → Settled n c r → resultOf c ≡ r
+pub result-is : (n c : ℕ) (r : Result) → Settled n c r → resultOf c ≡ r
 result-is n c failure m = rw (eq-eqb c 1 (m .code-is))
 result-is n c (success q) m =
     let e = m .code-is in

@@ -52,7 +52,7 @@ fits-set n N T y c l f h i k = elim (ℕ-discrete i y) [
 ]
 
 module _ (rule : ℕ → Rule) (s : List ℕ) (v : ℕ) (closed : Closed v rule) (few : v ≤ 256) (short : length s ≤ 4096) where
-  second-within : (C D p : ℕ) (t : Result) → Variable v C → Variable v D → p ≤ length s → Ends (length s) t → PairWithin v (length s) (second C D p t)
+  pub second-within : (C D p : ℕ) (t : Result) → Variable v C → Variable v D → p ≤ length s → Ends (length s) t → PairWithin v (length s) (second C D p t)
   second-within C D p (success q) c d l e = record { low = c .0; high = c .1; place = e }
   second-within C D p failure c d l e = record { low = d .0; high = d .1; place = l }
 
@@ -128,23 +128,24 @@ module _ (rule : ℕ → Rule) (s : List ℕ) (v : ℕ) (closed : Closed v rule)
       open-below : cell (length s) (b at q) < cells v (length s)
       open-below = cell-below v (length s) (b at q) open-within
 
-      open-put : Put (view mark T) (cell (length s) (b at q)) opened (view mark (set T (cell (length s) (b at q)) openMark))
+      pub open-put : Put (view mark T) (cell (length s) (b at q)) opened (view mark (set T (cell (length s) (b at q)) openMark))
       open-put =
           let l = open-below in
           let z = g .through .size in
           subst (λ (m : Mark Result). Put (view mark T) (cell (length s) (b at q)) m (view mark (set T (cell (length s) (b at q)) openMark)))
           (mark-open openMark refl) (put-set mark T (cell (length s) (b at q)) openMark (omega arith))
 
-      open-blank : view mark T (cell (length s) (b at q)) ≡ blank
+      pub open-blank : view mark T (cell (length s) (b at q)) ≡ blank
       open-blank = mark-blank (held (length s) T (b at q)) new
 
       pub open-falls : weight (view mark (set T (cell (length s) (b at q)) openMark)) (cells v (length s)) < weight (view mark T) (cells v (length s))
       unfolding cost
       open-falls = let c = ap cost open-blank in weight-falls (cells v (length s)) open-below open-put (omega arith)
 
-      pub open-goes : (k : ℕ) → cells v (length s) ≤ length U → k ≡ packed (a at p)
-          → Going rule s v x O U (set T (cell (length s) (b at q)) openMark) (set W (cell (length s) (b at q)) k) b q
-      open-goes k work-room e =
+      -- What holds once it is opened.
+      pub open-through : (k : ℕ) → cells v (length s) ≤ length U → k ≡ packed (a at p)
+          → Through rule s v x O U (set T (cell (length s) (b at q)) openMark) (set W (cell (length s) (b at q)) k) (cell (length s) (b at q) ∷ cell (length s) (a at p) ∷ g .stack)
+      open-through k work-room e =
           let n = length s in
           let N = cells v n in
           let y = cell n (b at q) in
@@ -155,26 +156,26 @@ module _ (rule : ℕ → Rule) (s : List ℕ) (v : ℕ) (closed : Closed v rule)
           let calls = link-calls (gtsCells rule s) N (gts-bounded rule s v closed) (g .through .inv .sound) top-below link in
           let reach = reach-on (gtsCells rule s) (top-reach (gtsCells rule s) N (gts-bounded rule s v closed) (g .through .inv)) (calls .1) in
           record {
-            stack = cell n (a at p) ∷ g .stack;
-            within = open-within;
-            through = record {
-              inv = open-next (gtsCells rule s) N (gts-bounded rule s v closed) (g .through .inv) link open-blank open-put;
-              linked =
-                  linked-push y k (omega arith) (e ∙ ap packed (sym (pair-cell v n (a at p) (g .within))))
-                  (λ i. let o = g .through .inv .on-open y i in let h = open-blank in clash (cc)) (g .through .linked);
-              fits = fits-set n N T y openMark (omega arith) (inr refl) (g .through .fits);
-              changed = changed-set y openMark reach;
-              later = drop-set-lt N T y openMark l ∙ g .through .later;
-              size = length-set T y openMark ∙ g .through .size;
-              work-later = drop-set-lt N W y k l ∙ g .through .work-later;
-              work-size = length-set W y k ∙ g .through .work-size;
-            };
+            inv = open-next (gtsCells rule s) N (gts-bounded rule s v closed) (g .through .inv) link open-blank open-put;
+            linked =
+                linked-push y k (omega arith) (e ∙ ap packed (sym (pair-cell v n (a at p) (g .within))))
+                (λ i. let o = g .through .inv .on-open y i in let h = open-blank in clash (cc)) (g .through .linked);
+            fits = fits-set n N T y openMark (omega arith) (inr refl) (g .through .fits);
+            changed = changed-set y openMark reach;
+            later = drop-set-lt N T y openMark l ∙ g .through .later;
+            size = length-set T y openMark ∙ g .through .size;
+            work-later = drop-set-lt N W y k l ∙ g .through .work-later;
+            work-size = length-set W y k ∙ g .through .work-size;
           }
+
+      pub open-goes : (k : ℕ) → cells v (length s) ≤ length U → k ≡ packed (a at p)
+          → Going rule s v x O U (set T (cell (length s) (b at q)) openMark) (set W (cell (length s) (b at q)) k) b q
+      open-goes k work-room e = record { stack = cell (length s) (a at p) ∷ g .stack; within = open-within; through = open-through k work-room e }
 
     -- ---- The pair's result.
 
     module _ (c : ℕ) (r : Result) (m : Settled (length s) c r) (given : Given rule s T (a at p) r) where
-      settle-put : Put (view mark T) (cell (length s) (a at p)) (settled r) (view mark (set T (cell (length s) (a at p)) c))
+      pub settle-put : Put (view mark T) (cell (length s) (a at p)) (settled r) (view mark (set T (cell (length s) (a at p)) c))
       settle-put =
           let l = top-below in
           let z = g .through .size in

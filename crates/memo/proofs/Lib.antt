@@ -17,3 +17,15 @@ pub mod Endmarker
 pub mod Judged
 pub mod Result
 pub mod Promised
+pub mod LineFields
+pub mod Lines
+pub mod Visiting
+pub mod CalledNumbers
+pub mod WrittenCells
+pub mod Remaining
+pub mod Laying
+pub mod LinesEnd
+pub mod LinesAsked
+pub mod WriterQuestioned
+pub mod WriterLaws
+pub mod LinesNumber

@@ -30,13 +30,13 @@ module _ {s input : List ℕ} {A p : ℕ} {before after : List ℕ} {r : Sheet} 
       rw (question-follows s input A p (length table) (length work) (refused x l) h) (t, k, m)
 
   module _ {l : Line} (e : r ≡ Read l) where
-    read : Admitted s input A p after l
+    pub read : Admitted s input A p after l
     read = admitted s input A p before after r admission l e
 
     accepts : sheet s ≡ accepted (read .grammar)
     accepts = handed-sheet s (asked input (A at p)) (read .grammar) (read .accepts)
 
-    follows : handed s (questionOf input (A at p) (length table) (length work))
+    pub follows : handed s (questionOf input (A at p) (length table) (length work))
         ≡ cond (slicesOut s input A p (length table) (length work) (read .grammar)) (refused 10 0) (accepted (read .grammar))
     follows = question-follows s input A p (length table) (length work) (accepted (read .grammar)) (read .accepts)
 
@@ -44,7 +44,7 @@ module _ {s input : List ℕ} {A p : ℕ} {before after : List ℕ} {r : Sheet} 
     in-bounds = (few-variables s (read .grammar) accepts (read .variables-are) (read .rules-are), read .input-short)
 
     module _ {small : Bool} (tested : small ≡ (ltb (length table) (cells (l .variables) (length input)) || ltb (length work) (cells (l .variables) (length input)))) where
-      tested-is : slicesOut s input A p (length table) (length work) (read .grammar) ≡ small
+      pub tested-is : slicesOut s input A p (length table) (length work) (read .grammar) ≡ small
       tested-is = rw (read .variables-are) (sym tested)
 
       -- Refused for a slice that is too small.

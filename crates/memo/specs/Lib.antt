@@ -3,3 +3,5 @@ pub mod Answer
 pub mod Walk
 pub mod Finish
 pub mod Verdict
+pub mod Writer
+pub mod Writing

@@ -21,6 +21,8 @@ use schema::Act;
 use schema::act_at;
 use schema::admit;
 
+pub mod writer;
+
 // What a cell of the table holds (document 01: blank, failure, loop, missing, end, or success ending at a position).
 pub struct Cell(pub u32);
 
