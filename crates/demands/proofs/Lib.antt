@@ -1,2 +1,6 @@
--- What the demands ask of the calls together.
+-- The demands, over the contracts of the calls.
+pub mod Demand1
 pub mod Agreement
+pub mod Demand3
+pub mod Passing
+pub mod Demand2

@@ -1,0 +1,107 @@
+-- Demand 2, of any results that meet the calls' contracts: the machine's moves and frames, the checker's exactly when, and "every reading we write
+-- passes". That success and failure come where the schema derives them and nowhere else is `outcome-exactly` of demand 3. Assumes nothing.
+use mathlib.Core.List.{List, _++_}
+use mathlib.Core.Logic.{_↔_}
+use mathlib.Core.Path.{_≡_, refl, sym, ap, _∙_, subst}
+use Prim.Native.Nat.{ℕ, _*_, _-_, _/_, _≤_}
+use native.Mathlib.Omega.{arith}
+use lib.ListN.{length, take, drop}
+use lib.Seq.{take-append-seam}
+use Rattle.grammar.specs.Refusal.{Checked, accepted}
+use Rattle.grammar.specs.Sheet.{Grammar}
+use Rattle.grammar.proofs.Accepted.{grammar-in-range}
+use Rattle.schema.specs.Derivation.{Pair, _at_, Result, Derives, Outcome, result, Has}
+use Rattle.schema.specs.Handed.{Handed, handed, asked}
+use Rattle.schema.specs.Line.{linesBytes}
+use Rattle.schema.specs.Machine.{says, ran}
+use Rattle.schema.specs.Table.{Within, cells}
+use Rattle.schema.proofs.Admitted.{question-accepted}
+use Rattle.schema.proofs.Handed.{handed-sheet, handed-input, handed-pair, handed-slices}
+use Rattle.schema.proofs.Laws.{number-one}
+use Rattle.schema.proofs.SheetClosed.{sheet-closed}
+use Rattle.memo.specs.Answer.{Reply, outcomeOf, countOf, told}
+use Rattle.memo.specs.Writer.{Writes, writerOf, SaysWriting, RepliesWriting, WriterPromise}
+use Rattle.memo.specs.declared.writer.Written.{Written}
+use Rattle.memo.proofs.LinesNumber.{lines-number}
+use Rattle.memo.proofs.Numbers.{cells-small}
+use Rattle.memo.proofs.Result.{count-is, count-most, outcome-is}
+use Rattle.backtrack.specs.Run as run
+use Rattle.backtrack.specs.declared.Ending.{Ending}
+use Rattle.backtrack.proofs.Call as machine
+use Rattle.checker.specs.Checker.{Checks}
+use Rattle.checker.specs.Proper.{Proper, Claims}
+use Rattle.checker.specs.declared.Claim.{Claim}
+use Rattle.checker.proofs.Call as checker
+use Rattle.checker.proofs.Written.{lines-length}
+use Rattle.demands.proofs.Passing.{visit-proper}
+
+-- "The backtracking machine gives the outcome of a k-step derivation exactly when it is lent at least 2k - 1 moves and as many frames as the
+-- derivation is high."
+pub machine-exactly : (s input : List ℕ) (x : Pair) (frames frames′ : List ℕ) (budget : ℕ) (r : Ending) → run.Runs s input x frames frames′ budget r
+    → (g : Grammar) → handed s (asked input x) ≡ accepted g → {t : Result} {k h : ℕ} → Derives (g .rule) input x t k h
+    → ((moves : ℕ) × (run.told r ≡ accepted (ran (says (result t)) moves))) ↔ ((2 * k - 1 ≤ budget) × (h ≤ length frames / 3))
+machine-exactly s input x frames frames′ budget r runs g e d = machine.call-exactly s input x frames frames′ budget r runs g e d .1
+
+-- "The checker passes a reading exactly when each line follows from a rule and earlier lines and the last is the pair in question".
+pub checker-exactly : (s input : List ℕ) (x : Pair) (reading : List ℕ) (r : Claim) → Checks s input x reading r
+    → (g : Grammar) → handed s (asked input x) ≡ accepted g → (t : Result) → Claims r x t ↔ Proper g input reading x t
+checker-exactly s input x reading r checks g e t = checker.call-exactly s input x reading r checks g e t
+
+-- ---- "every reading we write passes."
+
+module _ (s input : List ℕ) (A p : ℕ) (table table′ work work′ out out′ : List ℕ) (r : Written)
+    (promise : WriterPromise s input A p table table′ work work′ out out′ r)
+    (g : Grammar) (accepts : handed s (writerOf input (A at p) (length table) (length work) (length out)) ≡ accepted g)
+    (a : Reply) (answers : told (r .answer) ≡ accepted a) (t : Result) (succeeds : outcomeOf a ≡ result t) where
+  abbrev call : Handed
+  call = writerOf input (A at p) (length table) (length work) (length out)
+
+  wrote : SaysWriting (g .rule) (g .variables) input (A at p) table table′ work work′ out out′ (told (r .answer)) (r .lines)
+  wrote =
+      subst (λ (o : Checked Grammar). RepliesWriting o input (A at p) table table′ work work′ out out′ (told (r .answer)) (r .lines)) accepts promise
+
+  same : wrote .0 ≡ a
+  same = let e = wrote .1 in cc
+
+  writes : Writes (g .rule) input (A at p) (result t) out out′ (r .lines)
+  writes = subst (λ (o : Outcome). Writes (g .rule) input (A at p) o out out′ (r .lines)) (ap outcomeOf same ∙ succeeds) (wrote .3)
+
+  within : Within (g .variables) (length input) A p
+  within = handed-pair s call g accepts (A at p) refl
+
+  few : g .variables ≤ 256
+  few = grammar-in-range s g (handed-sheet s call g accepts) .1
+
+  short : length input ≤ 4096
+  short = handed-input s call g accepts
+
+  room : cells (g .variables) (length input) ≤ length table
+  room = handed-slices s call g accepts (length table) (length work) refl .0
+
+  -- There are as many lines as decided cells.
+  pub lines-are-cells : r .lines ≡ countOf a
+  lines-are-cells =
+      writes .counted ∙ number-one (lines-number (g .rule) input (writes .ordered)) (count-is s call g accepts (A at p) within room (wrote .2)) ∙ ap countOf same
+
+  has : Has (g .rule) input (A at p) (result t)
+  has = outcome-is s call g accepts (A at p) within room (wrote .2) (result t) .1 (ap outcomeOf same ∙ succeeds)
+
+  proper : Proper g input (linesBytes (writes .lines)) (A at p) t
+  proper =
+      let n = sym (writes .counted) ∙ lines-are-cells in
+      let most = count-most s call g accepts (A at p) within room (wrote .2) in
+      let small = cells-small (g .variables) (length input) few short in
+      let e = ap countOf same in
+      visit-proper g input (sheet-closed s g (handed-sheet s call g accepts)) few short (writes .lines) within has (writes .ordered) (omega arith)
+
+  reading-is : take (49 * r .lines) out′ ≡ linesBytes (writes .lines)
+  reading-is =
+      let ls = writes .lines in
+      let e : 49 * r .lines ≡ length (linesBytes ls) = ap (λ (k : ℕ). 49 * k) (writes .counted) ∙ sym (lines-length ls) in
+      ap (take (49 * r .lines)) (writes .written) ∙ ap (λ (k : ℕ). take k (linesBytes ls ++ drop (49 * length ls) out)) e ∙ take-append-seam (linesBytes ls) (drop (49 * length ls) out)
+
+  -- What was written, handed to the checker for the same question, passes, with the same outcome and end.
+  pub written-passes : (c : Claim) → Checks s input (A at p) (take (49 * r .lines) out′) c → Claims c (A at p) t
+  written-passes c checks =
+      checker-exactly s input (A at p) (take (49 * r .lines) out′) c checks g (question-accepted s call g A p accepts refl) t .1
+      (subst (λ (bytes : List ℕ). Proper g input bytes (A at p) t) (sym reading-is) proper)

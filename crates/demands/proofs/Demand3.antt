@@ -1,0 +1,81 @@
+-- Demand 3, whole: of any results that meet the contracts of the question, the machine's run and the checker. Assumes nothing.
+use mathlib.Core.List.{List, [], _∷_}
+use mathlib.Core.Path.{_≡_, refl, sym, ap, _∙_, subst}
+use Prim.Native.Nat.{ℕ}
+use lib.ListN.{length}
+use Rattle.grammar.specs.Printing.{text}
+use Rattle.grammar.specs.Refusal.{accepted}
+use Rattle.grammar.specs.Sheet.{Grammar}
+use Rattle.schema.specs.Cases.{sheetH, header}
+use Rattle.schema.specs.Derivation.{Pair, _at_, Result, success, failure, Outcome, result, loop, Has}
+use Rattle.schema.specs.Handed.{handed, asked, questionOf}
+use Rattle.schema.proofs.Admitted.{question-accepted}
+use Rattle.memo.specs.Answer.{Reply, reply, outcomeOf, told, QuestionPromise}
+use Rattle.memo.specs.declared.Answer.{Answer}
+use Rattle.memo.proofs.Promised.{question-answers, question-reply, case-a, case-g}
+use Rattle.backtrack.proofs.Call as machine
+use Rattle.backtrack.proofs.Named.{named}
+use Rattle.checker.specs.Checker as checker
+use Rattle.checker.specs.Proper.{claimed}
+use Rattle.checker.proofs.Call as claim
+use Rattle.demands.specs.Demands.{claimedOutcome, Demand3}
+
+claimed-outcome : (x : Pair) (t : Result) → claimedOutcome (claimed x t) ≡ result t
+claimed-outcome (A at p) (success q) = refl
+claimed-outcome (A at p) failure = refl
+
+module _ (s input : List ℕ) (A p : ℕ) (table work table′ work′ : List ℕ) (answer : Answer) (promise : QuestionPromise s input A p table table′ work work′ answer)
+    (g : Grammar) (accepts : handed s (questionOf input (A at p) (length table) (length work)) ≡ accepted g) where
+  plain : handed s (asked input (A at p)) ≡ accepted g
+  plain = question-accepted s (questionOf input (A at p) (length table) (length work)) g A p accepts refl
+
+  -- "Take any question (sheet, entry, variable, place) that the table engine does not refuse, whatever its table and work slice held before."
+  pub demand-3 : (a : Reply) × (told answer ≡ accepted a) × Demand3 s input (A at p) g table′ a
+  demand-3 =
+      let q = question-reply s input A p table work g accepts table′ work′ answer promise in
+      let exactly = q .4 in
+      let agrees : (o : Outcome) → Has (g .rule) input (A at p) o → outcomeOf (q .0) ≡ o = λ o h. exactly o .0 h in (
+        q .0,
+        q .1,
+        record {
+          outcome-exactly = λ o. (exactly o .1, exactly o .0);
+          machine-agrees = λ budget room o moves e. agrees o (named (g .rule) input (A at p) budget room moves o e);
+          run-agrees = λ frames frames′ budget r runs o moves e.
+              agrees o (machine.call-derived s input (A at p) frames frames′ budget r runs g plain o (moves, e));
+          checker-agrees = λ reading r checks c e.
+              let t = claim.call-claims s input (A at p) reading r checks g plain c e in
+              let h = claim.call-derived s input (A at p) reading r checks g plain (t .0) (t .1) in
+              let f = t .1 in
+              let same : c ≡ claimed (A at p) (t .0) = cc in
+              agrees (result (t .0)) h ∙ sym (ap claimedOutcome same ∙ claimed-outcome (A at p) (t .0));
+          cells-hold = question-answers s input A p table work g accepts table′ work′ answer promise .2 .leaves .holds;
+          counts = q .2;
+          count-most = q .3;
+        },
+      )
+
+  -- It holds of any reply that the answer says.
+  pub demand-3-of : (a : Reply) → told answer ≡ accepted a → Demand3 s input (A at p) g table′ a
+  demand-3-of a e =
+      let d = demand-3 in
+      let f = d .1 in
+      let same : d .0 ≡ a = cc in
+      subst (Demand3 s input (A at p) g table′) same (d .2)
+
+-- Case a: the sign rule of sheet H.
+pub demand-3-a : (table table′ work work′ : List ℕ) (r : Answer) → length table ≡ 1024 → length work ≡ 1024
+    → QuestionPromise (text sheetH) (45 ∷ 54 ∷ 46 ∷ []) 1 0 table table′ work work′ r
+    → (g : Grammar) → handed (text sheetH) (questionOf (45 ∷ 54 ∷ 46 ∷ []) (1 at 0) (length table) (length work)) ≡ accepted g
+    → Demand3 (text sheetH) (45 ∷ 54 ∷ 46 ∷ []) (1 at 0) g table′ (reply (result (success 3)) (0 at 0) 5)
+demand-3-a table table′ work work′ r e f promise g accepts =
+    demand-3-of (text sheetH) (45 ∷ 54 ∷ 46 ∷ []) 1 0 table work table′ work′ r promise g accepts (reply (result (success 3)) (0 at 0) 5)
+    (case-a table table′ work work′ r e f promise)
+
+-- Case g: a rule that comes back to itself at the same place.
+pub demand-3-g : (table table′ work work′ : List ℕ) (r : Answer) → length table ≡ 1024 → length work ≡ 1024
+    → QuestionPromise (text (header 1 ∷ (1 ∷ 4 ∷ 1 ∷ 1 ∷ 1 ∷ []) ∷ [])) [] 1 0 table table′ work work′ r
+    → (g : Grammar) → handed (text (header 1 ∷ (1 ∷ 4 ∷ 1 ∷ 1 ∷ 1 ∷ []) ∷ [])) (questionOf [] (1 at 0) (length table) (length work)) ≡ accepted g
+    → Demand3 (text (header 1 ∷ (1 ∷ 4 ∷ 1 ∷ 1 ∷ 1 ∷ []) ∷ [])) [] (1 at 0) g table′ (reply loop (1 at 0) 1)
+demand-3-g table table′ work work′ r e f promise g accepts =
+    demand-3-of (text (header 1 ∷ (1 ∷ 4 ∷ 1 ∷ 1 ∷ 1 ∷ []) ∷ [])) [] 1 0 table work table′ work′ r promise g accepts (reply loop (1 at 0) 1)
+    (case-g table table′ work work′ r e f promise)

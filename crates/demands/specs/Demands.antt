@@ -1,0 +1,42 @@
+-- Document 00, sentence by sentence, of any results that meet the contracts of the calls. Assumes nothing.
+use mathlib.Core.List.{List}
+use mathlib.Core.Logic.{_↔_}
+use mathlib.Core.Path.{_≡_}
+use Prim.Native.Nat.{ℕ, _≤_}
+use lib.ListN.{length}
+use Rattle.grammar.specs.Refusal.{accepted}
+use Rattle.grammar.specs.Sheet.{Grammar}
+use Rattle.schema.specs.Derivation.{Pair, success, failure, Outcome, result, Has}
+use Rattle.schema.specs.Machine.{says, ran, machine}
+use Rattle.schema.specs.Reached.{Reached, Number}
+use Rattle.schema.specs.Table.{cells, Holds}
+use Rattle.memo.specs.Answer.{Reply, outcomeOf, countOf}
+use Rattle.backtrack.specs.Run as run
+use Rattle.backtrack.specs.declared.Ending.{Ending}
+use Rattle.checker.specs.Checker.{Claimed, succeeds, fails, Checks, told}
+use Rattle.checker.specs.declared.Claim.{Claim}
+
+-- The outcome that a passed reading claims.
+abbrev pub claimedOutcome : Claimed → Outcome
+claimedOutcome (succeeds q) = result (success q)
+claimedOutcome (fails q) = result failure
+
+-- Demand 3, "any question (sheet, entry, variable, place) that the table engine does not refuse", of the grammar g that it reads, the table that it
+-- leaves and its reply.
+pub record Demand3 (sheet input : List ℕ) (x : Pair) (g : Grammar) (table : List ℕ) (a : Reply) : Type 0 where
+  -- "The engine says failure, a missing rule, the entry's end, or success with a certain end, exactly when a finite derivation gives just that.
+  -- It says loop exactly when none gives any of these four."
+  pub outcome-exactly : (o : Outcome) → (outcomeOf a ≡ o) ↔ Has (g .rule) input x o
+  -- "If the machine, moving as document 01 says and lent any moves and frames for the same question, names one of the four, that is the engine's
+  -- answer, a success with the same end."
+  pub machine-agrees : (budget room : ℕ) (o : Outcome) (moves : ℕ) → machine (g .rule) input x budget room ≡ ran (says o) moves → outcomeOf a ≡ o
+  pub run-agrees : (frames frames′ : List ℕ) (budget : ℕ) (r : Ending) → run.Runs sheet input x frames frames′ budget r
+      → (o : Outcome) (moves : ℕ) → run.told r ≡ accepted (ran (says o) moves) → outcomeOf a ≡ o
+  -- "If the checker, passing exactly what demand 2 says, passes any reading handed in for the same question, the engine's answer is the one the
+  -- reading claims, a success with the same end."
+  pub checker-agrees : (reading : List ℕ) (r : Claim) → Checks sheet input x reading r → (c : Claimed) → told r ≡ accepted c → outcomeOf a ≡ claimedOutcome c
+  -- "Each pair the question reaches has its outcome in its cell, as document 01 writes it;"
+  pub cells-hold : (y : Pair) → Reached (g .rule) input x y → Holds (g .rule) input table y
+  -- "the count of decided cells that the engine reports equals the number of these pairs, and is never more than variables times (bytes + 1)."
+  pub counts : Number (Reached (g .rule) input x) (countOf a)
+  pub count-most : countOf a ≤ cells (g .variables) (length input)
