@@ -25,13 +25,14 @@ no-stop (by-leaf f) e = clash (cc)
 no-stop (by-calls f m k) e = clash (cc)
 
 module _ {rule : ℕ → Rule} {s : List ℕ} {v A p c : ℕ} {T W : List ℕ} (r : LineReady rule s v A p c T W) where
+  -- What is asked to see its rule.
   pub act-ready : (1 ≤ A) × (A ≤ 256) × (length s ≤ 4096)
   act-ready =
       let f = r .walkable .few in
       let h = r .within .high in
       (r .within .low, omega arith, r .walkable .short)
 
-  -- A pair that calls: what is asked for its numbers, and what they are.
+  -- A pair that calls: what is asked to read its numbers.
   pub numbers-ready : {B C D : ℕ} → act rule s (A at p) ≡ calls B C D → CallsReady (length s) p B C D T W
   numbers-ready {B} {C} {D} e =
       let k = r .walkable .closed A B C D (calls-call (rule A) s p B C D e) in
@@ -50,6 +51,7 @@ module _ {rule : ℕ → Rule} {s : List ℕ} {v A p c : ℕ} {T W : List ℕ} (
         first = f .1;
       }
 
+  -- The numbers that were read are its numbers.
   pub numbers-called : {B C D i j : ℕ} → act rule s (A at p) ≡ calls B C D
       → ((t : Result) → Settled (length s) (held (length s) T (B at p)) t → (i ≡ held (length s) W (B at p)) × (j ≡ held (length s) W (second C D p t)))
       → Numbers rule s T W (A at p) i j

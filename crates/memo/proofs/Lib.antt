@@ -24,7 +24,9 @@ pub mod CalledNumbers
 pub mod WrittenCells
 pub mod Remaining
 pub mod Laying
+pub mod Laid
 pub mod LinesEnd
+pub mod TableOne
 pub mod LinesAsked
 pub mod WriterQuestioned
 pub mod WriterLaws

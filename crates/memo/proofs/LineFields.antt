@@ -109,6 +109,7 @@ module _ {n p b c d : ℕ} {T W : List ℕ} (r : CallsReady n p b c d T W) where
     pub not-below : f ≢ 1 → 5 ≤ f
     not-below d = ends d .0
 
+    -- That end is a position of the input.
     pub not-beyond : f ≢ 1 → f - 5 ≤ n
     not-beyond d = let k = ends d .0 in let l = ends d .1 in omega arith
 
@@ -137,8 +138,10 @@ success-code (inl e) d = absurd (d e)
 success-code (inr l) d = l
 
 module _ (A p c i j : ℕ) where
+  -- The line of failure ends where it starts,
   pub failure-line : c ≡ 1 → lineBytes (line A p 1 p i j) ≡ lineBytes (lineOf (A at p) (resultOf c) i j)
   failure-line e = rw (eq-eqb c 1 e)
 
+  -- that of success where the code says.
   pub success-line : c ≢ 1 → lineBytes (line A p 0 (c - 5) i j) ≡ lineBytes (lineOf (A at p) (resultOf c) i j)
   success-line d = rw (ne-eqb c 1 d)

@@ -2,28 +2,21 @@
 use mathlib.Core.Path.{_≡_, refl, sym, ap, _∙_, subst}
 use mathlib.Core.Bool.{Bool, true, false}
 use mathlib.Core.List.{List, []}
-use mathlib.Core.Logic.{_≢_}
-use Prim.Native.Nat.{ℕ, _+_, _-_, _<_}
-use native.Mathlib.Decide.{ℕ-discrete}
+use Prim.Native.Nat.{ℕ}
 use native.Mathlib.Omega.{arith}
-use lib.Dec.{ltb}
 use lib.ListN.{length, getD, set, take, drop}
-use borrow.Author.Tests.{ltb-true, ltb-false}
-use lib.Seq.{ext-getD, getD-drop}
 use Rattle.calls.proofs.Clash.{clash}
 use Rattle.grammar.specs.Refusal.{Checked, accepted}
 use Rattle.grammar.specs.Rule.{Rule}
-use Rattle.schema.specs.Derivation.{Pair, _at_, Result, success, failure, missing, end, Outcome, result, stopped, loop, Has}
+use Rattle.schema.specs.Derivation.{Pair, _at_, Result, Outcome, result, stopped, loop, Has}
 use Rattle.schema.specs.Line.{linesBytes}
-use Rattle.schema.specs.Reached.{Reached}
-use Rattle.schema.specs.Table.{cell, cells, code, held, decided, blanked, Table}
-use Rattle.schema.proofs.Cell.{pairOf, cell-pair, pair-within}
-use Rattle.schema.proofs.Laws.{has-one}
+use Rattle.schema.specs.Table.{cell, cells, decided}
 use Rattle.memo.specs.Answer.{Reply, reply, outcomeOf, Answers, Says}
 use Rattle.memo.specs.Walk.{openMark, before}
 use Rattle.memo.specs.Writer.{Lines, SaysWriting}
 use Rattle.memo.specs.Writing.{WriteReady, WriteEnds, AskWriteReady, LinesReady, hasResult}
 use Rattle.memo.proofs.Asked.{may-walk, before-cleared}
+use Rattle.memo.proofs.TableOne.{table-one}
 use Rattle.memo.proofs.Cleared.{cleared, cleared-at, cleared-length, cleared-later}
 
 module _ {rule : ℕ → Rule} {s : List ℕ} {v A p : ℕ} {T W out : List ℕ} (r : LinesReady rule s v A p T W out) {T₁ : List ℕ}
@@ -58,50 +51,6 @@ module _ {rule : ℕ → Rule} {s : List ℕ} {v A p : ℕ} {T W out : List ℕ}
         counted = h .counted;
         written = h .written;
       }
-
--- ---- The table that a question leaves is one.
-
-code-full : (o : Outcome) → code o ≢ 0
-code-full (result (success q)) e = omega arith
-code-full (result failure) e = omega arith
-code-full (stopped missing) e = omega arith
-code-full (stopped end) e = omega arith
-code-full loop e = omega arith
-
-module _ {rule : ℕ → Rule} {s : List ℕ} {v : ℕ} {x : Pair} {O P T U : List ℕ} (t : Table rule s v x blanked O T) (u : Table rule s v x blanked P U) where
-  reached-same : (y : Pair) → Reached rule s x y → held (length s) T y ≡ held (length s) U y
-  reached-same y k =
-      let a = t .holds y k in
-      let b = u .holds y k in
-      a .2 ∙ ap code (has-one rule s y (a .0) (b .0) (a .1) (b .1)) ∙ sym (b .2)
-
-  within-same : (i : ℕ) → i < cells v (length s) → held (length s) T (pairOf (length s) i) ≡ held (length s) U (pairOf (length s) i)
-  within-same i l =
-      let y = pairOf (length s) i in
-      let w = pair-within v (length s) i l in
-      elim (ℕ-discrete (held (length s) T y) 0) [
-        | yes e ↦ elim (ℕ-discrete (held (length s) U y) 0) [
-          | yes f ↦ e ∙ sym f
-          | no d ↦ reached-same y (u .others _ _ w d)
-        ]
-        | no d ↦ reached-same y (t .others _ _ w d)
-      ]
-
-  -- Two tables that a question leaves are equal where they are beyond its cells.
-  pub table-one : drop (cells v (length s)) T ≡ drop (cells v (length s)) U → length T ≡ length U → T ≡ U
-  table-one e z = ext-getD 0 T U z at-each
-    where
-      at-each : (i : ℕ) → i < length T → getD T i 0 ≡ getD U i 0
-      at-each i l = by-test (ltb i (cells v (length s))) refl
-        where
-          by-test : (b : Bool) → ltb i (cells v (length s)) ≡ b → getD T i 0 ≡ getD U i 0
-          by-test true h = rw (cell-pair (length s) i) at (within-same i (ltb-true i (cells v (length s)) h))
-          by-test false h =
-              let k = ltb-false i (cells v (length s)) h in
-              let q : cells v (length s) + (i - cells v (length s)) ≡ i = omega arith in
-              ap (λ (j : ℕ). getD T j 0) (sym q) ∙ sym (getD-drop (cells v (length s)) T (i - cells v (length s)) 0)
-              ∙ ap (λ (D : List ℕ). getD D (i - cells v (length s)) 0) e ∙ getD-drop (cells v (length s)) U (i - cells v (length s)) 0
-              ∙ ap (λ (j : ℕ). getD U j 0) q
 
 -- ---- The question, and its lines.
 

@@ -18,17 +18,21 @@ use Rattle.memo.specs.declared.Cell.{Cell}
 use Rattle.memo.proofs.Ended.{again-ends, missing-ends, end-ends, settle-ends}
 use Rattle.memo.proofs.Finished.{none-closes, no-open, answers}
 use Rattle.memo.proofs.Going.{Going}
-use Rattle.memo.proofs.Laying.{Writing, next-lines, laid-next, counted-next, visits-asked}
+use Rattle.memo.proofs.Laid.{next-lines, laid-next, counted-next, visits-asked}
+use Rattle.memo.proofs.Laying.{Writing}
 
 module _ (rule : ℕ → Rule) (s : List ℕ) (v : ℕ) (closed : Closed v rule) (few : v ≤ 256) (short : length s ≤ 4096) {x : Pair} (w : PairWithin v (length s) x) where
   -- A pair with a result has no other outcome.
   module _ {O U T W : List ℕ} {a p : ℕ} (g : Going rule s v x O U T W a p) (r : Result) (h : Has rule s x (result r)) where
+    -- No pair is met a second time,
     pub never-again : (b q : ℕ) → Called rule s T (a at p) (b at q) → held (length s) T (b at q) ≡ openMark → ⊥
     never-again b q c e = let z = has-one rule s x loop (result r) (again-ends rule s v closed few short w g b q c e .has) h in clash (cc)
 
+    -- none is without a rule,
     pub never-missing : act rule s (a at p) ≡ stops missing → ⊥
     never-missing e = let z = has-one rule s x (stopped missing) (result r) (missing-ends rule s v closed few short w g e .has) h in clash (cc)
 
+    -- and none without a byte.
     pub never-end : act rule s (a at p) ≡ stops end → ⊥
     never-end e = let z = has-one rule s x (stopped end) (result r) (end-ends rule s v closed few short w g e .has) h in clash (cc)
 

@@ -13,7 +13,7 @@ use Rattle.schema.specs.Derivation as derivation
 use Rattle.schema.specs.Derivation.{Pair, _at_, Result, act, gives, calls, second, Derives}
 use Rattle.schema.specs.Line.{Line, lineOf, Stands}
 use Rattle.schema.specs.Reached.{Reached, itself, first-of, second-of, Number}
-use Rattle.schema.proofs.Laws.{derives-one}
+use Rattle.schema.proofs.Laws.{derives-one, number-one}
 use Rattle.memo.specs.Writer.{Unwritten, Visits, passed, leaf, node}
 use Rattle.memo.proofs.Lines.{stands-none, stands-before, stands-last, stands-cases}
 use Rattle.memo.proofs.Visiting.{calls-one, visit-keeps, visit-stands}
@@ -188,3 +188,7 @@ module _ (rule : ℕ → Rule) (s : List ℕ) where
         );
         counted = n .counted;
       }
+
+  -- So there are as many as decided cells, where these are counted by the pairs reached.
+  pub lines-count : {x : Pair} {ls : List Line} {c : ℕ} → Visits rule s [] x ls → Number (Reached rule s x) c → length ls ≡ c
+  lines-count v n = number-one (lines-number v) n

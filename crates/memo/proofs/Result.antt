@@ -1,16 +1,12 @@
 -- What holds of any result that meets the promise of a question. Assumes nothing.
-use mathlib.Core.Path.{_≡_, refl, sym, ap, _∙_, subst}
-use mathlib.Core.Bool.{Bool, true, false}
+use mathlib.Core.Path.{_≡_, sym, ap, _∙_, subst}
 use mathlib.Core.Logic.{_≢_, _↔_}
 use mathlib.Core.List.{List}
-use Prim.Native.Nat.{ℕ, zero, suc, _+_, _-_, _/_, _%_, _≤_, _<_}
+use Prim.Native.Nat.{ℕ, zero, suc, _+_, _/_, _%_, _≤_, _<_}
 use native.Mathlib.Decide.{ℕ-discrete}
 use native.Mathlib.Numerals.{add-one}
 use native.Mathlib.Omega.{arith}
-use lib.Dec.{ltb}
-use lib.ListN.{length, getD, take, drop}
-use lib.Seq.{getD-drop, ext-getD}
-use borrow.Author.Tests.{ltb-true, ltb-false}
+use lib.ListN.{length, getD, take}
 use Rattle.calls.proofs.Count.{Count, none, hit, miss, count-map, count-le}
 use Rattle.grammar.specs.Refusal.{accepted}
 use Rattle.grammar.specs.Sheet.{Grammar}
@@ -27,6 +23,7 @@ use Rattle.schema.proofs.Laws.{has-one, named-one, number-one}
 use Rattle.schema.proofs.SheetClosed.{sheet-closed}
 use Rattle.memo.specs.Answer.{Reply, reply, outcomeOf, countOf, Answers}
 use Rattle.memo.proofs.Decided.{decided-none, decided-blank, decided-more}
+use Rattle.memo.proofs.TableOne.{table-one}
 
 -- The count of decided cells counts the cells that are not blank.
 decided-count : (T : List ℕ) (m : ℕ) → m ≤ length T → Count (λ i. getD T i 0 ≢ 0) m (decided (take m T))
@@ -44,9 +41,6 @@ some-code (result failure) e = omega arith
 some-code (stopped missing) e = omega arith
 some-code (stopped end) e = omega arith
 some-code loop e = omega arith
-
-later-same : (k : ℕ) (T : List ℕ) (i : ℕ) → k ≤ i → getD T i 0 ≡ getD (drop k T) (i - k) 0
-later-same k T i l = let e : k + (i - k) ≡ i = omega arith in sym (getD-drop k T (i - k) 0 ∙ ap (λ (j : ℕ). getD T j 0) e)
 
 -- ---- Of an answer, whatever call gave it.
 
@@ -115,24 +109,5 @@ module _ (s : List ℕ) (h : Handed) (g : Grammar) (accepts : handed s h ≡ acc
         let e : b ≡ reply (other .outcome) (other .named) (countOf b) = answer-is room other (other .outcome) (other .named) (countOf b) (other .has) (other .names) (count-is room other) in
         answer-is room one (other .outcome) (other .named) (countOf b) (other .has) (other .names) (count-is room other) ∙ sym e
 
-    same-cell : (i : ℕ) → i < size → getD table′ i 0 ≡ getD table″ i 0
-    same-cell i l = elim (ℕ-discrete (getD table′ i 0) 0) [
-      | yes e ↦ elim (ℕ-discrete (getD table″ i 0) 0) [
-        | yes f ↦ e ∙ sym f
-        | no d ↦ absurd (filled room one i l .1 (filled room other i l .0 d) e)
-      ]
-      | no d ↦ let r = filled room one i l .0 d in
-          let p = one .leaves .holds (pairOf n i) r in
-          let q = other .leaves .holds (pairOf n i) r in
-          let o = has-one (g .rule) input (pairOf n i) (p .0) (q .0) (p .1) (q .1) in
-          sym (at-cell table′ i) ∙ p .2 ∙ ap code o ∙ sym (q .2) ∙ at-cell table″ i
-    ]
-
     pub one-table : table′ ≡ table″
-    one-table = ext-getD 0 table′ table″ (one .leaves .size ∙ sym (other .leaves .size)) λ i l. by-test i (ltb i size) refl
-      where
-        by-test : (i : ℕ) (t : Bool) → ltb i size ≡ t → getD table′ i 0 ≡ getD table″ i 0
-        by-test i true e = same-cell i (ltb-true i size e)
-        by-test i false e =
-            let l = ltb-false i size e in
-            later-same size table′ i l ∙ ap (λ (k : List ℕ). getD k (i - size) 0) (one .leaves .later ∙ sym (other .leaves .later)) ∙ sym (later-same size table″ i l)
+    one-table = table-one (one .leaves) (other .leaves) (one .leaves .later ∙ sym (other .leaves .later)) (one .leaves .size ∙ sym (other .leaves .size))

@@ -29,6 +29,7 @@ pub settled-not : (n c : ℕ) (r : Result) → Settled n c r → Unsettled c →
 settled-not n c (success q) h u = let e = h .code-is in let l = u .no-success in omega arith
 settled-not n c failure h u = u .no-failure (h .code-is)
 
+-- A rule calls the same variables, however it is read.
 pub calls-one : {a : Act} {B C D E F G : ℕ} → a ≡ calls B C D → a ≡ calls E F G → (B ≡ E) × (C ≡ F) × (D ≡ G)
 calls-one h k = (cc, cc, cc)
 

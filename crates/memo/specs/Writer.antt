@@ -11,7 +11,7 @@ use Rattle.grammar.specs.Sheet.{Grammar}
 use Rattle.schema.specs.Derivation.{Pair, _at_, Result, gives, calls, act, second, Outcome, result, stopped, loop}
 use Rattle.schema.specs.Handed.{Handed, handed}
 use Rattle.schema.specs.Line.{Line, lineOf, linesBytes, Stands}
-use Rattle.memo.specs.Answer.{Reply, reply, outcomeOf, told, Answers}
+use Rattle.memo.specs.Answer.{Reply, outcomeOf, told, Answers}
 use Rattle.memo.specs.declared.writer.Written.{Written}
 
 -- No line is that of the pair.

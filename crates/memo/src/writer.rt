@@ -1,13 +1,13 @@
 // The writer: asks a question, and for success and failure writes its certificate (document 01: a reading).
 ghost use mathlib.Core.Path.{_≡_};
 ghost use mathlib.Core.List.{_++_};
-ghost use Prim.Native.Nat.{ℕ, _+_, _*_, _≤_, _<_};
+ghost use Prim.Native.Nat.{_+_, _*_, _≤_, _<_};
 ghost use lib.Dec.{ltb};
 ghost use lib.ListN.{length, take, drop};
 ghost use Rattle.columns.specs.Column.{column};
 ghost use Rattle.grammar.specs.Refusal.{Checked};
 ghost use Rattle.grammar.specs.Words.{ruleIn};
-ghost use Rattle.schema.specs.Derivation.{_at_, Result, second, result, Has};
+ghost use Rattle.schema.specs.Derivation.{_at_, Result, second};
 ghost use Rattle.schema.specs.Line.{line, lineOf, lineBytes};
 ghost use Rattle.schema.specs.Table.{cell, held, cells};
 ghost use Rattle.memo.specs.Answer.{told, Code};

@@ -12,7 +12,8 @@ use Rattle.memo.specs.Walk.{before, openMark, Saw}
 use Rattle.memo.proofs.Marks.{mark}
 use Rattle.memo.proofs.Numbers.{cell-small, cells-small}
 use Rattle.memo.proofs.Going.{open-within, open-falls, settle-falls, room-before, walkable-still, work-still, table-length, bounds, in-table, in-work}
-use Rattle.memo.proofs.Laying.{Writing, begins-writing, opens-writing, settles-writing, line-room, output-length}
+use Rattle.memo.proofs.Laying.{Writing, begins-writing, opens-writing, output-length}
+use Rattle.memo.proofs.Laid.{settles-writing, line-room}
 use Rattle.memo.proofs.LinesEnd.{never-again, never-missing, never-end, ends-writing}
 use Rattle.memo.proofs.writer.write_from.Statement.{statement}
 use Rattle.memo.proofs.writer.write_from.Tie as tie
