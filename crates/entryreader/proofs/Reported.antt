@@ -1,0 +1,51 @@
+-- The exported question's numbers. Assumes nothing.
+use mathlib.Core.List.{List}
+use mathlib.Core.Path.{_≡_, refl, sym, ap, _∙_, subst}
+use Prim.Native.Nat.{ℕ, _≤_}
+use native.Mathlib.Omega.{arith}
+use lib.ListN.{length}
+use Rattle.grammar.specs.Refusal.{Checked, refused, accepted}
+use Rattle.grammar.specs.Rule.{Rule}
+use Rattle.grammar.specs.Sheet.{Grammar}
+use Rattle.schema.specs.Derivation.{_at_, success, failure, missing, end, Outcome, result, stopped, loop, Has}
+use Rattle.schema.specs.Handed.{handed, questionOf}
+use Rattle.schema.specs.Table.{code}
+use Rattle.schema.proofs.Ends.{derives-ends}
+use Rattle.schema.proofs.Handed.{handed-input, handed-pair}
+use Rattle.memo.specs.Answer.{outcomeOf, told, Replies, QuestionPromise}
+use Rattle.memo.specs.declared.Answer.{Answer}
+use Rattle.memo.proofs.Promised.{one-result}
+use Rattle.entryreader.specs.Codes.{returned, reported, QuestionNumbers, Fits}
+use Rattle.entryreader.proofs.Small.{refusal-small}
+
+-- The code of an outcome on up to 4,096 bytes.
+code-small : (rule : ℕ → Rule) (s : List ℕ) (A p : ℕ) (o : Outcome) → p ≤ length s → length s ≤ 4096 → Has rule s (A at p) o → code o ≤ 4101
+code-small rule s A p (result (success q)) l m d = let e = derives-ends rule s l (d .2) in omega arith
+code-small rule s A p (result failure) l m d = omega arith
+code-small rule s A p (stopped missing) l m d = omega arith
+code-small rule s A p (stopped end) l m d = omega arith
+code-small rule s A p loop l m d = omega arith
+
+module _ (s input : List ℕ) (A p : ℕ) (table table′ work work′ : List ℕ) where
+  -- The numbers of an answer fit 32 bits.
+  pub answer-fits : (r : Answer) → QuestionPromise s input A p table table′ work work′ r → Fits (told r)
+  answer-fits r promise = by-sheet (handed s (questionOf input (A at p) (length table) (length work))) refl promise
+    where
+      by-sheet : (o : Checked Grammar) → handed s (questionOf input (A at p) (length table) (length work)) ≡ o
+          → Replies o input (A at p) table table′ work work′ (told r) → Fits (told r)
+      by-sheet (refused x l) e m = subst Fits (sym (m .0)) (refusal-small s _ x l e)
+      by-sheet (accepted g) e m =
+          let a = m .2 in
+          let k = code-small (g .rule) input A p (a .outcome) (handed-pair s _ g e (A at p) refl .place) (handed-input s _ g e) (a .has) in
+          subst Fits (sym (m .1)) (subst (λ (o : Outcome). code o ≤ 4101) (sym (ap outcomeOf (a .says))) k)
+
+-- One result only: the same number, the same four numbers and the same table.
+pub one-report : (s input : List ℕ) (A p : ℕ) (table table′ table″ work work′ work″ answer answer′ answer″ : List ℕ) (r t : ℕ)
+    → QuestionNumbers s input A p table table′ work work′ answer answer′ r → QuestionNumbers s input A p table table″ work work″ answer answer″ t
+    → (r ≡ t) × (answer′ ≡ answer″) × (table′ ≡ table″)
+one-report s input A p table table′ table″ work work′ work″ answer answer′ answer″ r t one other =
+    let same = one-result s input A p table work table′ table″ work′ work″ (one .found) (other .found) (one .promise) (other .promise) in (
+      one .returns ∙ ap returned (same .0) ∙ sym (other .returns),
+      one .reports ∙ ap (reported answer) (same .0) ∙ sym (other .reports),
+      same .1,
+    )

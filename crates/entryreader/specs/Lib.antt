@@ -1,0 +1,2 @@
+-- What the calls for programs in other languages promise.
+pub mod Codes

@@ -1,0 +1,73 @@
+// The calls for programs in other languages.
+ghost use Prim.Native.Nat.{_≤_};
+ghost use mathlib.Core.Path.{_≡_};
+ghost use Rattle.memo.specs.Answer.{told};
+ghost use Rattle.memo.specs.Verdict.{numbers};
+ghost use Rattle.entryreader.specs.Codes.{codeOf, VerdictCode, returned, reported, Fits, QuestionNumbers};
+use memo::Answer;
+use memo::Cell;
+use memo::Judgement;
+
+// The code of a verdict, or 100 plus the number of a refusal.
+fn code(judgement: Judgement) -> u32
+    requires { ⌜ codeOf (numbers judgement) ≤ 111 ⌝ }
+    ensures { λ r. ⌜ r ≡ codeOf (numbers judgement) ⌝ }
+{
+    match judgement {
+        Judgement::Recognised(_, _) => 0,
+        Judgement::Failure(_) => 1,
+        Judgement::Loop(_, _, _) => 2,
+        Judgement::Missing(_, _, _) => 3,
+        Judgement::End(_, _, _) => 4,
+        Judgement::Partial(_, _) => 5,
+        Judgement::Refused(number, _) => 100 + number,
+    }
+}
+
+// The verdict on an input, over a table and a work slice of the call's own: its code, or 100 plus the number of a refusal.
+#[no_mangle]
+pub extern "C" fn entryreader_verdict(sheet: &[u8], input: &[u8]) -> u32
+    ensures { λ r. ⌜ VerdictCode (now (sheet .entry)) (now (input .entry)) r ⌝ }
+{
+    let mut table = [0u32; 1024];
+    let mut work = [0u32; 1024];
+    code(memo::verdict(sheet, input, &mut table, &mut work))
+}
+
+// Stores the four numbers of an answer, and returns 0; or 100 plus the number of a refusal.
+fn report(answer: Answer, out: &mut [u32; 4]) -> u32
+    requires { ⌜ Fits (told answer) ⌝ }
+    ensures returns { λ r. ⌜ r ≡ returned (told answer) ⌝ }
+    ensures reports { λ _. ⌜ now (out .exit) ≡ reported (now (out .entry)) (told answer) ⌝ }
+{
+    let four = match answer {
+        Answer::Success(end, count) => [Cell::SUCCESS.0 + end, 0, 0, count],
+        Answer::Failure(count) => [Cell::FAILURE.0, 0, 0, count],
+        Answer::Loop(variable, position, count) => [Cell::LOOP.0, variable, position, count],
+        Answer::Missing(variable, position, count) => [Cell::MISSING.0, variable, position, count],
+        Answer::End(variable, position, count) => [Cell::END.0, variable, position, count],
+        Answer::Refused(number, _) => {
+            return 100 + number;
+        }
+    };
+    *out = four;
+    0
+}
+
+// A question about a variable at a position of the input, over a lent table and a lent work slice: 0, with the cell's code, the named
+// variable, the named position and the count of decided cells in the answer; or 100 plus the number of a refusal, with nothing changed.
+#[no_mangle]
+pub extern "C" fn entryreader_question(
+    sheet: &[u8],
+    input: &[u8],
+    variable: u32,
+    position: u32,
+    table: &mut [u32],
+    work: &mut [u32],
+    answer: &mut [u32; 4],
+) -> u32
+    ensures { λ r. ⌜ QuestionNumbers (now (sheet .entry)) (now (input .entry)) variable position (now (table .entry)) (now (table .exit)) (now (work .entry)) (now (work .exit)) (now (answer .entry)) (now (answer .exit)) r ⌝ }
+{
+    let found = memo::question(sheet, input, variable, position, table, work);
+    report(found, answer)
+}

@@ -1,0 +1,42 @@
+-- Where the verdict is not refused, the writer is not refused for the start variable at 0. Assumes nothing.
+use mathlib.Core.List.{List}
+use mathlib.Core.Path.{_≡_, refl, _∙_}
+use Prim.Native.Nat.{ℕ, _*_, _≤_}
+use native.Mathlib.Omega.{arith}
+use lib.ListN.{length}
+use borrow.Author.Tests.{le-ltb, le-leb}
+use Rattle.grammar.specs.Refusal.{accepted}
+use Rattle.grammar.specs.Sheet.{Grammar}
+use Rattle.grammar.proofs.Accepted.{grammar-in-range}
+use Rattle.grammar.proofs.Refusals.{accepted-clear}
+use Rattle.schema.specs.Derivation.{_at_}
+use Rattle.schema.specs.Handed.{callFaults, handed, verdictOf}
+use Rattle.schema.specs.Table.{Within, cells}
+use Rattle.schema.proofs.Admission.{handed-then}
+use Rattle.schema.proofs.Handed.{handed-sheet, handed-input, handed-slices}
+use Rattle.memo.specs.Writer.{writerOf}
+
+module _ (s input : List ℕ) (g : Grammar) (e : handed s (verdictOf input 1024 1024) ≡ accepted g) where
+  -- The start variable at 0 is a pair.
+  pub start-within : Within (g .variables) (length input) (g .start) 0
+  start-within = let b = grammar-in-range s g (handed-sheet s _ g e) in record { low = b .2; high = b .3; place = omega arith }
+
+  -- 1,024 lines fit in an output of 50,176 bytes.
+  pub writer-accepted : (k : ℕ) → 50176 ≤ k → handed s (writerOf input (g .start at 0) 1024 1024 k) ≡ accepted g
+  unfolding callFaults
+  writer-accepted k l =
+      let b = grammar-in-range s g (handed-sheet s _ g e) in
+      let n = length input in
+      let count = cells (g .variables) n in
+      let room = handed-slices s _ g e 1024 1024 refl .0 in
+      handed-then s (writerOf input (g .start at 0) 1024 1024 k) g (handed-sheet s _ g e)
+      ∙ accepted-clear (callFaults g (writerOf input (g .start at 0) 1024 1024 k)) g .1 (
+        le-ltb 4096 n (handed-input s _ g e),
+        (
+          refl,
+          (
+            rw (le-leb 1 (g .start) (b .2), le-leb (g .start) (g .variables) (b .3)) refl,
+            (le-ltb n 0 (omega arith), (rw (le-ltb 1024 count room) refl, (le-ltb k (49 * count) (omega arith), tt))),
+          ),
+        ),
+      )

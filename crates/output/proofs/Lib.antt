@@ -1,0 +1,8 @@
+-- Laws of the output.
+pub mod FirstLine
+pub mod Start
+pub mod Accepting
+pub mod Printed
+pub mod Joined
+pub mod Whole
+pub mod Length

@@ -1,0 +1,2 @@
+-- What the program `readentry` writes.
+pub mod Output

@@ -1,0 +1,88 @@
+// The whole output of the program `readentry`.
+ghost use mathlib.Core.Path.{_≡_};
+ghost use mathlib.Core.List.{[], _∷_};
+ghost use lib.ListN.{length};
+ghost use Rattle.columns.specs.Column.{row};
+ghost use Rattle.memo.specs.Verdict.{numbers};
+ghost use Rattle.output.specs.Output.{StartOf, Certificate, OutputPromise};
+use columns::write_field;
+use grammar::sheet::Sheet;
+use grammar::sheet::read_sheet;
+use memo::Judgement;
+use memo::writer::write;
+
+pub mod program;
+
+// The four numbers of a verdict.
+fn numbers_of(judgement: Judgement) -> [u32; 4]
+    ensures { λ r. ⌜ r ≡ numbers judgement ⌝ }
+{
+    match judgement {
+        Judgement::Recognised(end, count) => [0, 0, end, count],
+        Judgement::Failure(count) => [1, 0, 0, count],
+        Judgement::Loop(variable, position, count) => [2, variable, position, count],
+        Judgement::Missing(variable, position, count) => [3, variable, position, count],
+        Judgement::End(variable, position, count) => [4, variable, position, count],
+        Judgement::Partial(end, count) => [5, 0, end, count],
+        Judgement::Refused(number, line) => [9, number, line, 0],
+    }
+}
+
+// Writes the first line: four fields of 8 columns, and byte 10.
+fn first_line(out: &mut [u8], a: u32, b: u32, c: u32, d: u32)
+    requires { ⌜ length (now out) ≡ 33 ⌝ }
+    ensures { λ _. ⌜ now (out .exit) ≡ row 8 (a ∷ b ∷ c ∷ d ∷ []) ⌝ }
+{
+    write_field(&mut out[0..8], a);
+    write_field(&mut out[8..16], b);
+    write_field(&mut out[16..24], c);
+    write_field(&mut out[24..32], d);
+    out[32] = 10;
+}
+
+// The start variable of a sheet; 0 where the sheet is refused.
+fn start_of(sheet: &[u8]) -> u32
+    ensures { λ r. ⌜ StartOf (now (sheet .entry)) r ⌝ }
+{
+    let mut rules = [0u32; 256];
+    let read = read_sheet(sheet, &mut rules);
+    match read {
+        Sheet::Read(grammar) => grammar.start,
+        Sheet::Refused(_, _) => 0,
+    }
+}
+
+// Writes the certificate of a verdict that is not refused; the count of its lines.
+fn certificate(
+    sheet: &[u8],
+    input: &[u8],
+    code: u32,
+    table: &mut [u32],
+    work: &mut [u32],
+    out: &mut [u8],
+) -> u32
+    ensures { λ r. ⌜ Certificate (now (sheet .entry)) (now (input .entry)) code (length (now (table .entry))) (length (now (work .entry))) (now (out .entry)) (now (out .exit)) r ⌝ }
+{
+    if code == 9 {
+        return 0;
+    }
+    let start = start_of(sheet);
+    let written = write(sheet, input, start, 0, table, work, out);
+    written.lines
+}
+
+// Writes the output of the program for a sheet and an input, and gives its length. A slice of under 33 + 50,176 bytes is left as it is.
+pub fn write_output(sheet: &[u8], input: &[u8], out: &mut [u8]) -> usize
+    ensures { λ r. ⌜ OutputPromise (now (sheet .entry)) (now (input .entry)) (now (out .entry)) (now (out .exit)) r ⌝ }
+{
+    if out.len() < 50209 {
+        return 0;
+    }
+    let mut table = [0u32; 1024];
+    let mut work = [0u32; 1024];
+    let four = numbers_of(memo::verdict(sheet, input, &mut table, &mut work));
+    let code = four[0];
+    first_line(&mut out[0..33], code, four[1], four[2], four[3]);
+    let lines = certificate(sheet, input, code, &mut table, &mut work, &mut out[33..]);
+    33 + 49 * lines as usize
+}

@@ -1,0 +1,4 @@
+// The endmarker is not the last byte.
+fn main() {
+    output::program::run();
+}

@@ -1,0 +1,4 @@
+// A failure with its reading.
+fn main() {
+    output::program::run();
+}

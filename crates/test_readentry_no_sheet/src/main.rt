@@ -1,0 +1,4 @@
+// No sheet file: it counts as empty.
+fn main() {
+    output::program::run();
+}

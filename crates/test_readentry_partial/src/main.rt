@@ -1,0 +1,4 @@
+// Case i of document 01: partial.
+fn main() {
+    output::program::run();
+}

@@ -1,0 +1,58 @@
+//! The calls of the static library. Each slice goes over as its pointer and its length.
+
+unsafe extern "C" {
+    fn entryreader_verdict(
+        sheet: *const u8,
+        sheet_length: usize,
+        input: *const u8,
+        input_length: usize,
+    ) -> u32;
+
+    fn entryreader_question(
+        sheet: *const u8,
+        sheet_length: usize,
+        input: *const u8,
+        input_length: usize,
+        variable: u32,
+        position: u32,
+        table: *mut u32,
+        table_length: usize,
+        work: *mut u32,
+        work_length: usize,
+        answer: *mut [u32; 4],
+    ) -> u32;
+}
+
+/// 0 to 5, or 100 plus the number of a refusal.
+pub fn verdict(sheet: &[u8], entry: &[u8]) -> u32 {
+    // SAFETY: the call has no precondition, and reads the two slices only.
+    unsafe { entryreader_verdict(sheet.as_ptr(), sheet.len(), entry.as_ptr(), entry.len()) }
+}
+
+/// 0 with the four numbers in `answer`, or 100 plus the number of a refusal.
+pub fn question(
+    sheet: &[u8],
+    entry: &[u8],
+    variable: u32,
+    place: u32,
+    table: &mut [u32],
+    work: &mut [u32],
+    answer: &mut [u32; 4],
+) -> u32 {
+    // SAFETY: the call has no precondition; it reads the first two slices, and writes inside the three that are lent exclusively.
+    unsafe {
+        entryreader_question(
+            sheet.as_ptr(),
+            sheet.len(),
+            entry.as_ptr(),
+            entry.len(),
+            variable,
+            place,
+            table.as_mut_ptr(),
+            table.len(),
+            work.as_mut_ptr(),
+            work.len(),
+            answer,
+        )
+    }
+}
