@@ -4,3 +4,4 @@ pub mod Agreement
 pub mod Demand3
 pub mod Passing
 pub mod Demand2
+pub mod Demands

@@ -1,0 +1,96 @@
+-- Document 00, sentence by sentence, as theorems about any results that meet the contracts of the calls. Assumes nothing.
+use mathlib.Core.List.{List}
+use mathlib.Core.Logic.{_↔_}
+use mathlib.Core.Path.{_≡_}
+use Prim.Native.Nat.{ℕ, _*_, _-_, _/_, _≤_}
+use lib.ListN.{length, take}
+use Rattle.grammar.specs.Refusal.{refused, accepted}
+use Rattle.grammar.specs.Sheet.{Grammar}
+use Rattle.grammar.proofs.Conditions.{FirstHolds}
+use Rattle.schema.specs.Derivation.{Pair, _at_, Result, Derives, result}
+use Rattle.schema.specs.Handed.{handed, asked, questionOf, verdictOf}
+use Rattle.schema.specs.Machine.{says, ran}
+use Rattle.memo.specs.Answer.{Reply, outcomeOf, told, QuestionPromise}
+use Rattle.memo.specs.Verdict.{VerdictPromise}
+use Rattle.memo.specs.Writer.{writerOf, WriterPromise}
+use Rattle.memo.specs.declared.Answer.{Answer}
+use Rattle.memo.specs.declared.Judgement.{Judgement}
+use Rattle.memo.specs.declared.writer.Written.{Written}
+use Rattle.backtrack.specs.Run as run
+use Rattle.backtrack.specs.declared.Ending.{Ending}
+use Rattle.checker.specs.Checker as checker
+use Rattle.checker.specs.Checker.{Checks, checkCondition, checkFaults}
+use Rattle.checker.specs.Proper.{Proper, Claims}
+use Rattle.checker.specs.declared.Claim.{Claim}
+use Rattle.demands.specs.Demands.{Demand3}
+use Rattle.demands.proofs.Demand1 as one
+use Rattle.demands.proofs.Demand1.{Refuses, verdictTold}
+use Rattle.demands.proofs.Demand2 as two
+use Rattle.demands.proofs.Demand3 as three
+
+-- ---- Demand 1. "A caller may pass anything .., and the call ends: with an outcome, with the machine's spent or no frame, or with one numbered refusal
+-- under exactly the condition in document 01, its table and output then unchanged." That each call ends and meets its contract, whatever it is
+-- handed, is what the contracts say, which have no `requires`.
+
+-- The question.
+pub demand-1-question : (s input : List ℕ) (A p : ℕ) (table table′ work work′ : List ℕ) (r : Answer) → QuestionPromise s input A p table table′ work work′ r
+    → (x l : ℕ) → ((told r ≡ refused x l) ↔ Refuses s (questionOf input (A at p) (length table) (length work)) x l)
+    × (told r ≡ refused x l → (table′ ≡ table) × (work′ ≡ work))
+demand-1-question s input A p table table′ work work′ r promise x l =
+    let f = one.question-follows s input A p table table′ work work′ r promise in
+    (one.refused-exactly f x l, one.then-unchanged f x l)
+
+-- The verdict.
+pub demand-1-verdict : (s input table table′ work work′ : List ℕ) (r : Judgement) → VerdictPromise s input table table′ work work′ r
+    → (x l : ℕ) → ((verdictTold r ≡ refused x l) ↔ Refuses s (verdictOf input (length table) (length work)) x l)
+    × (verdictTold r ≡ refused x l → (table′ ≡ table) × (work′ ≡ work))
+demand-1-verdict s input table table′ work work′ r promise x l =
+    let f = one.verdict-follows s input table table′ work work′ r promise in
+    (one.refused-exactly f x l, one.then-unchanged f x l)
+
+-- The machine.
+pub demand-1-run : (s input : List ℕ) (x : Pair) (frames frames′ : List ℕ) (budget : ℕ) (r : Ending) → run.Runs s input x frames frames′ budget r
+    → (y l : ℕ) → ((run.told r ≡ refused y l) ↔ Refuses s (asked input x) y l) × (run.told r ≡ refused y l → frames′ ≡ frames)
+demand-1-run s input x frames frames′ budget r promise y l =
+    let f = one.run-follows s input x frames frames′ budget r promise in
+    (one.refused-exactly f y l, one.then-unchanged f y l)
+
+-- The writer.
+pub demand-1-write : (s input : List ℕ) (A p : ℕ) (table table′ work work′ out out′ : List ℕ) (r : Written) → WriterPromise s input A p table table′ work work′ out out′ r
+    → (x l : ℕ) → ((told (r .answer) ≡ refused x l) ↔ Refuses s (writerOf input (A at p) (length table) (length work) (length out)) x l)
+    × (told (r .answer) ≡ refused x l → (table′ ≡ table) × (work′ ≡ work) × (out′ ≡ out))
+demand-1-write s input A p table table′ work work′ out out′ r promise x l =
+    let f = one.write-follows s input A p table table′ work work′ out out′ r promise in
+    (one.refused-exactly f x l, one.then-unchanged f x l)
+
+-- The checker.
+pub demand-1-check : (s input : List ℕ) (x : Pair) (reading : List ℕ) (r : Claim) → Checks s input x reading r
+    → (y l : ℕ) → (checker.told r ≡ refused y l) ↔ FirstHolds (checkCondition s input x reading) (checkFaults s input x reading) y l
+demand-1-check = one.check-refused
+
+-- ---- Demand 2. "Success and failure come where it derives them and nowhere else": `outcome-exactly` of demand 3.
+
+-- "The backtracking machine gives the outcome of a k-step derivation exactly when it is lent at least 2k - 1 moves and as many frames as the
+-- derivation is high."
+pub demand-2-machine : (s input : List ℕ) (x : Pair) (frames frames′ : List ℕ) (budget : ℕ) (r : Ending) → run.Runs s input x frames frames′ budget r
+    → (g : Grammar) → handed s (asked input x) ≡ accepted g → {t : Result} {k h : ℕ} → Derives (g .rule) input x t k h
+    → ((moves : ℕ) × (run.told r ≡ accepted (ran (says (result t)) moves))) ↔ ((2 * k - 1 ≤ budget) × (h ≤ length frames / 3))
+demand-2-machine s input x frames frames′ budget r runs g e d = two.machine-exactly s input x frames frames′ budget r runs g e d
+
+-- "The checker passes a reading exactly when each line follows from a rule and earlier lines and the last is the pair in question;"
+pub demand-2-checker : (s input : List ℕ) (x : Pair) (reading : List ℕ) (r : Claim) → Checks s input x reading r
+    → (g : Grammar) → handed s (asked input x) ≡ accepted g → (t : Result) → Claims r x t ↔ Proper g input reading x t
+demand-2-checker = two.checker-exactly
+
+-- "every reading we write passes", with the same outcome and end.
+pub demand-2-writer : (s input : List ℕ) (A p : ℕ) (table table′ work work′ out out′ : List ℕ) (r : Written) → WriterPromise s input A p table table′ work work′ out out′ r
+    → (g : Grammar) → handed s (writerOf input (A at p) (length table) (length work) (length out)) ≡ accepted g
+    → (a : Reply) → told (r .answer) ≡ accepted a → (t : Result) → outcomeOf a ≡ result t
+    → (c : Claim) → Checks s input (A at p) (take (49 * r .lines) out′) c → Claims c (A at p) t
+demand-2-writer = two.written-passes
+
+-- ---- Demand 3. "Take any question (sheet, entry, variable, place) that the table engine does not refuse, whatever its table and work slice held before."
+pub demand-3 : (s input : List ℕ) (A p : ℕ) (table work table′ work′ : List ℕ) (r : Answer) → QuestionPromise s input A p table table′ work work′ r
+    → (g : Grammar) → handed s (questionOf input (A at p) (length table) (length work)) ≡ accepted g
+    → (a : Reply) × (told r ≡ accepted a) × Demand3 s input (A at p) g table′ a
+demand-3 = three.demand-3
