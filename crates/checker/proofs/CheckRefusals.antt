@@ -10,7 +10,8 @@ use lib.ListN.{length}
 use borrow.Author.Tests.{ne-eqb}
 use Rattle.grammar.specs.Refusal.{refused}
 use Rattle.grammar.specs.Sheet.{lines, grammarOf, condition, ruleFaults, sheetFaults}
-use Rattle.grammar.proofs.Conditions.{Conditions, FirstHolds, refused-exactly, conditions-append}
+use Rattle.grammar.specs.Order.{FirstHolds}
+use Rattle.grammar.proofs.Conditions.{Conditions, refused-exactly, conditions-append}
 use Rattle.schema.specs.Derivation.{Pair}
 use Rattle.schema.specs.Handed.{asked, callCondition, handedCondition, callFaults}
 use Rattle.checker.specs.Checker as checker

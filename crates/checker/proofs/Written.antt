@@ -9,8 +9,9 @@ use lib.ListN.{length, getD, getElem?, length-append}
 use lib.Seq.{getD-append-add}
 use borrow.Author.Tests.{eq-eqb}
 use Rattle.columns.specs.Column.{column, row, fields}
-use Rattle.columns.proofs.Rows.{Fit, column-length, row-length, row-read}
+use Rattle.columns.proofs.Rows.{Fit, column-length, row-read}
 use Rattle.schema.specs.Line.{Line, line, lineBytes, linesBytes}
+use Rattle.schema.proofs.LineLength.{line-length, lines-length}
 use Rattle.checker.specs.Checker.{lineAt}
 use Rattle.checker.specs.Proper.{Reads}
 
@@ -21,14 +22,6 @@ FitLine (line A p flag e i j) = Fit 8 (A ∷ p ∷ flag ∷ e ∷ i ∷ j ∷ []
 abbrev pub FitLines : List Line → Type 0
 FitLines [] = Unit {0}
 FitLines (l ∷ ls) = FitLine l × FitLines ls
-
-line-length : (l : Line) → length (lineBytes l) ≡ 49
-line-length (line A p flag e i j) = row-length 8 (A ∷ p ∷ flag ∷ e ∷ i ∷ j ∷ [])
-
-pub lines-length : (ls : List Line) → length (linesBytes ls) ≡ 49 * length ls
-unfolding linesBytes
-lines-length [] = refl
-lines-length (l ∷ ls) = length-append (lineBytes l) (linesBytes ls) ∙ omega (arith, line-length l, lines-length ls)
 
 -- A row ends with byte 10.
 row-end : (w : ℕ) (xs before after : List ℕ) → getD (before ++ (row w xs ++ after)) (length before + w * length xs) 0 ≡ 10

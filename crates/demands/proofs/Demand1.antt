@@ -1,6 +1,6 @@
 -- Demand 1: each call is refused with a number exactly under document 01's condition, where no condition that comes earlier in the order holds,
 -- and every lent slice is then as it was; of any results that meet the calls' contracts. Assumes nothing.
-use mathlib.Core.List.{List, _∷_, _++_}
+use mathlib.Core.List.{List, _∷_}
 use mathlib.Core.Logic.{_↔_}
 use mathlib.Core.Path.{_≡_, refl, sym, ap, _∙_, subst}
 use mathlib.Core.Bool.{Bool, true, false, cond}
@@ -10,10 +10,10 @@ use lib.Dec.{eqb}
 use lib.ListN.{length}
 use Rattle.calls.proofs.Clash.{clash}
 use Rattle.grammar.specs.Refusal.{Checked, refused, accepted}
-use Rattle.grammar.specs.Sheet.{Grammar, grammarOf, sheetFaults}
-use Rattle.grammar.proofs.Conditions.{FirstHolds}
+use Rattle.grammar.specs.Sheet.{Grammar}
+use Rattle.grammar.specs.Order.{FirstHolds}
 use Rattle.schema.specs.Derivation.{Pair, _at_, success, failure, missing, end, Outcome, result, stopped, loop}
-use Rattle.schema.specs.Handed.{Handed, handed, handedCondition, callFaults, asked, questionOf, verdictOf}
+use Rattle.schema.specs.Handed.{Handed, handed, asked, questionOf, verdictOf}
 use Rattle.schema.specs.Machine.{Ran}
 use Rattle.schema.specs.Verdict.{verdictCode}
 use Rattle.schema.proofs.CallRefusals.{call-refused}
@@ -30,10 +30,7 @@ use Rattle.checker.specs.Checker as checker
 use Rattle.checker.specs.Checker.{Checks, checkCondition, checkFaults}
 use Rattle.checker.specs.declared.Claim.{Claim}
 use Rattle.checker.proofs.CheckRefusals.{check-refused-exactly}
-
--- The first condition that holds, of a call that is handed h, is that of the number x at the line l.
-abbrev pub Refuses : List ℕ → Handed → ℕ → ℕ → Type 0
-Refuses s h x l = FirstHolds (handedCondition s h) (sheetFaults s ++ callFaults (grammarOf s) h) x l
+use Rattle.demands.specs.Demands.{Refuses, verdictTold}
 
 -- A call that answers as `handed` says: refused with the same number and line, and then with everything as it was, or accepted.
 pub record Follows (B : Type 0) (s : List ℕ) (h : Handed) (t : Checked B) (unchanged : Type 0) : Type 0 where
@@ -84,16 +81,6 @@ run-follows s input x frames frames′ budget r promise = record {
     given o e = subst (λ (o : Checked Grammar). run.Comes o input x frames frames′ budget r) e promise
 
 -- ---- The verdict.
-
--- A refusal with its number and line, or the numbers of a verdict.
-abbrev pub verdictTold : Judgement → Checked (List ℕ)
-verdictTold (Refused number line) = refused number line
-verdictTold (Recognised q count) = accepted (numbers (Recognised q count))
-verdictTold (Partial q count) = accepted (numbers (Partial q count))
-verdictTold (Failure count) = accepted (numbers (Failure count))
-verdictTold (Loop A p count) = accepted (numbers (Loop A p count))
-verdictTold (Missing A p count) = accepted (numbers (Missing A p count))
-verdictTold (End A p count) = accepted (numbers (End A p count))
 
 head-same : {a b : ℕ} {xs ys : List ℕ} → (a ∷ xs) ≡ (b ∷ ys) → a ≡ b
 head-same e = cc

@@ -18,6 +18,7 @@ use Rattle.schema.specs.Table.{Within, cells}
 use Rattle.schema.proofs.Admitted.{question-accepted}
 use Rattle.schema.proofs.Handed.{handed-sheet, handed-input, handed-pair, handed-slices}
 use Rattle.schema.proofs.Laws.{number-one}
+use Rattle.schema.proofs.LineLength.{lines-length}
 use Rattle.schema.proofs.SheetClosed.{sheet-closed}
 use Rattle.memo.specs.Answer.{Reply, outcomeOf, countOf, told}
 use Rattle.memo.specs.Writer.{Writes, writerOf, SaysWriting, RepliesWriting, WriterPromise}
@@ -32,7 +33,6 @@ use Rattle.checker.specs.Checker.{Checks}
 use Rattle.checker.specs.Proper.{Proper, Claims}
 use Rattle.checker.specs.declared.Claim.{Claim}
 use Rattle.checker.proofs.Call as checker
-use Rattle.checker.proofs.Written.{lines-length}
 use Rattle.demands.proofs.Passing.{visit-proper}
 
 -- "The backtracking machine gives the outcome of a k-step derivation exactly when it is lent at least 2k - 1 moves and as many frames as the

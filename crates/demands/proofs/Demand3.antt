@@ -1,5 +1,6 @@
 -- Demand 3, whole: of any results that meet the contracts of the question, the machine's run and the checker. Assumes nothing.
 use mathlib.Core.List.{List, [], _∷_}
+use mathlib.Core.Logic.{_⊎_}
 use mathlib.Core.Path.{_≡_, refl, sym, ap, _∙_, subst}
 use Prim.Native.Nat.{ℕ}
 use lib.ListN.{length}
@@ -9,10 +10,13 @@ use Rattle.grammar.specs.Sheet.{Grammar}
 use Rattle.schema.specs.Cases.{sheetH, header}
 use Rattle.schema.specs.Derivation.{Pair, _at_, Result, success, failure, Outcome, result, loop, Has}
 use Rattle.schema.specs.Handed.{handed, asked, questionOf}
+use Rattle.schema.specs.Machine.{spent, noFrame, ran}
 use Rattle.schema.proofs.Admitted.{question-accepted}
 use Rattle.memo.specs.Answer.{Reply, reply, outcomeOf, told, QuestionPromise}
 use Rattle.memo.specs.declared.Answer.{Answer}
 use Rattle.memo.proofs.Promised.{question-answers, question-reply, case-a, case-g}
+use Rattle.backtrack.specs.Run as run
+use Rattle.backtrack.specs.declared.Ending.{Ending}
 use Rattle.backtrack.proofs.Call as machine
 use Rattle.backtrack.proofs.Named.{named}
 use Rattle.checker.specs.Checker as checker
@@ -61,6 +65,13 @@ module _ (s input : List ℕ) (A p : ℕ) (table work table′ work′ : List �
       let f = d .1 in
       let same : d .0 ≡ a = cc in
       subst (Demand3 s input (A at p) g table′) same (d .2)
+
+  -- Where the engine answers loop, the machine says spent or no frame.
+  pub machine-on-loop : (a : Reply) → told answer ≡ accepted a → outcomeOf a ≡ loop
+      → (frames frames′ : List ℕ) (budget : ℕ) (r : Ending) → run.Runs s input (A at p) frames frames′ budget r
+      → (moves : ℕ) × ((run.told r ≡ accepted (ran spent moves)) ⊎ (run.told r ≡ accepted (ran noFrame moves)))
+  machine-on-loop a e l frames frames′ budget r runs =
+      machine.call-on-loop s input (A at p) frames frames′ budget r runs g plain (demand-3-of a e .outcome-exactly loop .0 l)
 
 -- Case a: the sign rule of sheet H.
 pub demand-3-a : (table table′ work work′ : List ℕ) (r : Answer) → length table ≡ 1024 → length work ≡ 1024

@@ -6,7 +6,7 @@ use Prim.Native.Nat.{ℕ, _*_, _-_, _/_, _≤_}
 use lib.ListN.{length, take}
 use Rattle.grammar.specs.Refusal.{refused, accepted}
 use Rattle.grammar.specs.Sheet.{Grammar}
-use Rattle.grammar.proofs.Conditions.{FirstHolds}
+use Rattle.grammar.specs.Order.{FirstHolds}
 use Rattle.schema.specs.Derivation.{Pair, _at_, Result, Derives, result}
 use Rattle.schema.specs.Handed.{handed, asked, questionOf, verdictOf}
 use Rattle.schema.specs.Machine.{says, ran}
@@ -22,9 +22,8 @@ use Rattle.checker.specs.Checker as checker
 use Rattle.checker.specs.Checker.{Checks, checkCondition, checkFaults}
 use Rattle.checker.specs.Proper.{Proper, Claims}
 use Rattle.checker.specs.declared.Claim.{Claim}
-use Rattle.demands.specs.Demands.{Demand3}
+use Rattle.demands.specs.Demands.{Refuses, verdictTold, Demand3}
 use Rattle.demands.proofs.Demand1 as one
-use Rattle.demands.proofs.Demand1.{Refuses, verdictTold}
 use Rattle.demands.proofs.Demand2 as two
 use Rattle.demands.proofs.Demand3 as three
 

@@ -1,6 +1,5 @@
 -- The demands, over the contracts of the calls.
 pub mod Demand1
-pub mod Agreement
 pub mod Demand3
 pub mod Passing
 pub mod Demand2

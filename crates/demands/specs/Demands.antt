@@ -1,20 +1,43 @@
 -- Document 00, sentence by sentence, of any results that meet the contracts of the calls. Assumes nothing.
-use mathlib.Core.List.{List}
+use mathlib.Core.List.{List, _++_}
 use mathlib.Core.Logic.{_↔_}
 use mathlib.Core.Path.{_≡_}
 use Prim.Native.Nat.{ℕ, _≤_}
 use lib.ListN.{length}
-use Rattle.grammar.specs.Refusal.{accepted}
-use Rattle.grammar.specs.Sheet.{Grammar}
+use Rattle.grammar.specs.Refusal.{Checked, refused, accepted}
+use Rattle.grammar.specs.Order.{FirstHolds}
+use Rattle.grammar.specs.Sheet.{Grammar, grammarOf, sheetFaults}
 use Rattle.schema.specs.Derivation.{Pair, success, failure, Outcome, result, Has}
+use Rattle.schema.specs.Handed.{Handed, handedCondition, callFaults}
 use Rattle.schema.specs.Machine.{says, ran, machine}
 use Rattle.schema.specs.Reached.{Reached, Number}
 use Rattle.schema.specs.Table.{cells, Holds}
 use Rattle.memo.specs.Answer.{Reply, outcomeOf, countOf}
+use Rattle.memo.specs.Verdict.{numbers}
+use Rattle.memo.specs.declared.Judgement.{Judgement}
+use Rattle.memo.specs.declared.Judgement.the-variants.{Recognised, Partial, Failure, Loop, Missing, End, Refused}
 use Rattle.backtrack.specs.Run as run
 use Rattle.backtrack.specs.declared.Ending.{Ending}
 use Rattle.checker.specs.Checker.{Claimed, succeeds, fails, Checks, told}
 use Rattle.checker.specs.declared.Claim.{Claim}
+
+-- ---- Demand 1.
+
+-- The first condition that holds, of a call that is handed h, is that of the number x at the line l.
+abbrev pub Refuses : List ℕ → Handed → ℕ → ℕ → Type 0
+Refuses s h x l = FirstHolds (handedCondition s h) (sheetFaults s ++ callFaults (grammarOf s) h) x l
+
+-- A refusal with its number and line, or the numbers of a verdict.
+abbrev pub verdictTold : Judgement → Checked (List ℕ)
+verdictTold (Refused number line) = refused number line
+verdictTold (Recognised q count) = accepted (numbers (Recognised q count))
+verdictTold (Partial q count) = accepted (numbers (Partial q count))
+verdictTold (Failure count) = accepted (numbers (Failure count))
+verdictTold (Loop A p count) = accepted (numbers (Loop A p count))
+verdictTold (Missing A p count) = accepted (numbers (Missing A p count))
+verdictTold (End A p count) = accepted (numbers (End A p count))
+
+-- ---- Demand 3.
 
 -- The outcome that a passed reading claims.
 abbrev pub claimedOutcome : Claimed → Outcome

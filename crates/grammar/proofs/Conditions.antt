@@ -5,6 +5,7 @@ use mathlib.Core.List.{List, [], _∷_, _++_}
 use mathlib.Core.Logic.{_↔_}
 use Prim.Native.Nat.{ℕ}
 use Rattle.grammar.specs.Refusal.{refused, Fault, fault, checked}
+use Rattle.grammar.specs.Order.{NoneHolds, FirstHolds}
 use Rattle.grammar.proofs.Refusals.{First, refused-first}
 
 -- The condition of each number at each line.
@@ -14,20 +15,7 @@ module _ (condition : ℕ → ℕ → Bool) where
   Conditions [] = Unit {0}
   Conditions (fault x l h ∷ fs) = (h ≡ condition x l) × Conditions fs
 
-  -- None of the conditions of these faults holds.
-  abbrev pub NoneHolds : List Fault → Type 0
-  NoneHolds [] = Unit {0}
-  NoneHolds (fault x l h ∷ fs) = (condition x l ≡ false) × NoneHolds fs
-
-  -- In the order of these faults, the first condition that holds is that of the number x at the line l.
-  pub record FirstHolds (fs : List Fault) (x l : ℕ) : Type 0 where
-    pub before : List Fault
-    pub after : List Fault
-    pub order : fs ≡ before ++ fault x l (condition x l) ∷ after
-    pub holds : condition x l ≡ true
-    pub none-before : NoneHolds before
-
-  first-holds : (x l : ℕ) (fs : List Fault) → Conditions fs → First x l fs → FirstHolds fs x l
+  first-holds : (x l : ℕ) (fs : List Fault) → Conditions fs → First x l fs → FirstHolds condition fs x l
   first-holds x l [] c f = absurd f
   first-holds x l (fault y m true ∷ fs) c f =
       let p = f .0 in
@@ -45,13 +33,13 @@ module _ (condition : ℕ → ℕ → Bool) where
       }
 
   holds-first : (x l : ℕ) (before after : List Fault) → Conditions (before ++ fault x l (condition x l) ∷ after) → condition x l ≡ true
-      → NoneHolds before → First x l (before ++ fault x l (condition x l) ∷ after)
+      → NoneHolds condition before → First x l (before ++ fault x l (condition x l) ∷ after)
   holds-first x l [] after c h n = rw h (refl, refl)
   holds-first x l (fault y m true ∷ before) after c h n = absurd (true≢false (c .0 ∙ n .0))
   holds-first x l (fault y m false ∷ before) after c h n = holds-first x l before after (c .1) h (n .1)
 
   -- Both ways.
-  pub refused-exactly : {A : Type 0} (fs : List Fault) (a : A) (x l : ℕ) → Conditions fs → checked fs a ≡ refused x l ↔ FirstHolds fs x l
+  pub refused-exactly : {A : Type 0} (fs : List Fault) (a : A) (x l : ℕ) → Conditions fs → checked fs a ≡ refused x l ↔ FirstHolds condition fs x l
   refused-exactly fs a x l c = (
     λ e. first-holds x l fs c (refused-first fs a x l .0 e),
     λ f.

@@ -5,7 +5,8 @@ use mathlib.Core.Logic.{_↔_}
 use Prim.Native.Nat.{ℕ, zero, suc, _-_}
 use Rattle.grammar.specs.Refusal.{refused}
 use Rattle.grammar.specs.Sheet.{lines, grammarOf, condition, ruleFaults, sheetFaults, sheet}
-use Rattle.grammar.proofs.Conditions.{Conditions, FirstHolds, refused-exactly}
+use Rattle.grammar.specs.Order.{FirstHolds}
+use Rattle.grammar.proofs.Conditions.{Conditions, refused-exactly}
 
 rule-conditions : (s : List ℕ) (n k : ℕ) → Conditions (condition s) (ruleFaults s n k)
 unfolding ruleFaults condition

@@ -9,8 +9,8 @@ use native.Mathlib.Numerals.{add-one}
 use lib.ListN.{length, getElem?, take, drop, length-append, length-drop}
 use lib.Seq.{take-at, drop-append-add, drop-drop}
 use Rattle.calls.proofs.Clash.{clash}
-use Rattle.columns.proofs.Rows.{row-length}
 use Rattle.schema.specs.Derivation.{Pair, _at_, Result, success, failure}
+use Rattle.schema.proofs.LineLength.{lines-length}
 use Rattle.schema.specs.Line.{Line, line, lineOf, lineBytes, linesBytes, numbered, Stands}
 
 element-before : (ls more : List Line) (i : ℕ) (l : Line) → getElem? ls i ≡ some l → getElem? (ls ++ more) i ≡ some l
@@ -81,15 +81,6 @@ stands-cases ls x r i j {k} {y} {t} h = which (numbered-cases ls (lineOf x r i j
 
 -- ---- The bytes.
 
--- A line has 49 bytes.
-pub line-length : (l : Line) → length (lineBytes l) ≡ 49
-line-length (line A p flag e i j) = row-length 8 (A ∷ p ∷ flag ∷ e ∷ i ∷ j ∷ [])
-
-bytes-length : (ls : List Line) → length (linesBytes ls) ≡ 49 * length ls
-unfolding linesBytes
-bytes-length [] = refl
-bytes-length (l ∷ ls) = let h = bytes-length ls in let k = line-length l in length-append (lineBytes l) (linesBytes ls) ∙ omega arith
-
 bytes-append : (ls : List Line) (l : Line) → linesBytes (ls ++ l ∷ []) ≡ linesBytes ls ++ lineBytes l
 unfolding linesBytes
 bytes-append [] l = append-nil (lineBytes l)
@@ -99,7 +90,7 @@ bytes-append (m ∷ ls) l = ap (λ (b : List ℕ). lineBytes m ++ b) (bytes-appe
 pub line-laid : (ls : List Line) (l : Line) (k : ℕ) (out₀ out out′ : List ℕ) → k ≡ length ls → out ≡ linesBytes ls ++ drop (49 * length ls) out₀
     → out′ ≡ take (49 * k) out ++ (lineBytes l ++ drop (49 * k + 49) out) → out′ ≡ linesBytes (ls ++ l ∷ []) ++ drop (49 * length (ls ++ l ∷ [])) out₀
 line-laid ls l k out₀ out out′ e f g =
-    let b = bytes-length ls in
+    let b = lines-length ls in
     let rest = drop (49 * length ls) out₀ in
     let t : take (49 * k) (linesBytes ls ++ rest) ≡ linesBytes ls = take-at (linesBytes ls) rest (49 * k) (omega arith) in
     let q : 49 * k + 49 ≡ length (linesBytes ls) + 49 = omega arith in
@@ -112,6 +103,6 @@ line-laid ls l k out₀ out out′ e f g =
 -- The output keeps its length.
 pub laid-length : (ls : List Line) (out₀ out : List ℕ) → 49 * length ls ≤ length out₀ → out ≡ linesBytes ls ++ drop (49 * length ls) out₀ → length out ≡ length out₀
 laid-length ls out₀ out l e =
-    let b = bytes-length ls in
+    let b = lines-length ls in
     let d = length-drop (49 * length ls) out₀ in
     ap length e ∙ length-append (linesBytes ls) (drop (49 * length ls) out₀) ∙ omega arith

@@ -1,22 +1,22 @@
 -- The output, from the promises of the verdict and of the writer. Assumes nothing.
 use mathlib.Core.Bool.{Bool, true, false, cond}
-use mathlib.Core.List.{List, [], _∷_, _++_, append-nil}
+use mathlib.Core.List.{List, [], _++_, append-nil}
 use mathlib.Core.Logic.{_≢_}
 use mathlib.Core.Path.{_≡_, refl, sym, ap, _∙_, subst}
 use Prim.Native.Nat.{ℕ, _*_, _≤_}
 use native.Mathlib.Omega.{arith}
 use lib.Dec.{eqb}
-use lib.ListN.{length, getD, drop, length-append}
+use lib.ListN.{length, getD, drop}
 use Rattle.columns.specs.Column.{row}
-use Rattle.columns.proofs.Rows.{row-length}
 use Rattle.grammar.specs.Refusal.{Checked, refused, accepted}
 use Rattle.grammar.specs.Sheet.{Grammar}
 use Rattle.schema.specs.Derivation.{Pair, _at_, success, failure, missing, end, Outcome, result, stopped, loop, Has}
 use Rattle.schema.specs.Handed.{handed, verdictOf}
-use Rattle.schema.specs.Line.{Line, line, linesBytes}
+use Rattle.schema.specs.Line.{linesBytes}
 use Rattle.schema.specs.Reached.{Reached, Number}
 use Rattle.schema.proofs.Handed.{handed-sheet, handed-slices}
 use Rattle.schema.proofs.Laws.{has-one}
+use Rattle.schema.proofs.LineLength.{lines-length}
 use Rattle.memo.specs.Answer.{reply, outcomeOf, countOf, told}
 use Rattle.memo.specs.Verdict.{numbers, judged, Judges, VerdictPromise}
 use Rattle.memo.specs.Writer.{Lines, Writes, writerOf, SaysWriting, RepliesWriting}
@@ -24,15 +24,6 @@ use Rattle.memo.specs.declared.Judgement.{Judgement}
 use Rattle.memo.proofs.Result.{count-is}
 use Rattle.output.specs.Output.{Printing, Writing, Certificate}
 use Rattle.output.proofs.Accepting.{start-within, writer-accepted}
-
--- A line has 49 bytes.
-bytes-length : (ls : List Line) → length (linesBytes ls) ≡ 49 * length ls
-unfolding linesBytes
-bytes-length [] = refl
-bytes-length (line A p flag e i j ∷ ls) =
-    let h = bytes-length ls in
-    let k = row-length 8 (A ∷ p ∷ flag ∷ e ∷ i ∷ j ∷ []) in
-    length-append (row 8 (A ∷ p ∷ flag ∷ e ∷ i ∷ j ∷ [])) (linesBytes ls) ∙ omega arith
 
 -- The code of an answer is not that of a refusal.
 not-refused : (n : ℕ) (o : Outcome) (z : Pair) (count : ℕ) → getD (judged n (accepted (reply o z count))) 0 0 ≢ 9
@@ -110,7 +101,7 @@ module _ (s input table table′ work work′ : List ℕ) (j : Judgement) (e : l
       let same : numbers j ≡ judged (length input) (accepted (reply (a .outcome) (a .named) _)) = m .1 ∙ ap (judged (length input)) (m .2 .1 ∙ ap accepted (a .says)) in
       let w = certificate .writing λ q. not-refused (length input) (a .outcome) (a .named) _ (ap (λ (xs : List ℕ). getD xs 0 0) (sym same) ∙ sym code-is ∙ q) in
       let u = start-lines s input tables works tables-are works-are o o′ count room g h w (a .outcome) (a .has) in
-      let z = bytes-length (u .lines) in
+      let z = lines-length (u .lines) in
       record {
         bytes = linesBytes (u .lines);
         printing = subst (λ (q : Checked Grammar). Printing q input (row 8 (numbers j) ++ linesBytes (u .lines))) (sym h) record {

@@ -5,7 +5,8 @@ use mathlib.Core.Logic.{_↔_}
 use Prim.Native.Nat.{ℕ, zero, suc, _-_}
 use Rattle.grammar.specs.Refusal.{refused}
 use Rattle.grammar.specs.Sheet.{lines, grammarOf, condition, ruleFaults, sheetFaults}
-use Rattle.grammar.proofs.Conditions.{Conditions, FirstHolds, refused-exactly, conditions-append}
+use Rattle.grammar.specs.Order.{FirstHolds}
+use Rattle.grammar.proofs.Conditions.{Conditions, refused-exactly, conditions-append}
 use Rattle.schema.specs.Handed.{Handed, callCondition, handedCondition, callFaults, handed}
 
 rule-conditions : (s : List ℕ) (h : Handed) (n k : ℕ) → Conditions (handedCondition s h) (ruleFaults s n k)

@@ -13,5 +13,6 @@ pub mod CallRefusals
 pub mod Admission
 pub mod Admitted
 pub mod SheetClosed
+pub mod LineLength
 pub mod Eval
 pub mod Cases

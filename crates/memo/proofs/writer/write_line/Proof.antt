@@ -1,7 +1,7 @@
 use mathlib.Core.Path.{sym, ap, _∙_}
 use lib.ListN.{length}
 use Rattle.schema.specs.Line.{line}
-use Rattle.memo.proofs.Lines.{line-length}
+use Rattle.schema.proofs.LineLength.{line-length}
 use Rattle.memo.proofs.LineFields.{line-put}
 use borrow.Author.Needs.{needs}
 use Rattle.memo.proofs.writer.write_line.Statement.{statement}
