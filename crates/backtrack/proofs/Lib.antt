@@ -1,5 +1,4 @@
 -- Laws of the machine and of the code's frames.
-pub mod RuleWords
 pub mod Stack
 pub mod Plans
 pub mod Sound

@@ -4,13 +4,13 @@ use grammar::sheet::Sheet;
 use schema::Act;
 use schema::act_at;
 use schema::admit;
+use schema::second_of;
 ghost use mathlib.Core.Bool.{cond};
 ghost use mathlib.Core.List.{List, _∷_};
 ghost use mathlib.Core.Path.{_≡_};
 ghost use Prim.Native.Nat.{ℕ, _+_, _*_, _/_, _≤_};
 ghost use lib.ListN.{length};
 ghost use Rattle.grammar.specs.Refusal.{accepted};
-ghost use Rattle.grammar.specs.Rule.{call};
 ghost use Rattle.grammar.specs.Words.{ruleIn};
 ghost use Rattle.schema.specs.Act.{told as does};
 ghost use Rattle.schema.specs.Derivation.{_at_, result, success, failure};
@@ -49,18 +49,6 @@ enum Plan {
 enum Turn {
     Ended(Ending),
     Moved(Registers),
-}
-
-// The variable that a kind 4 rule calls second: C on success, D on failure.
-fn second_of(rules: &[u32; 256], variable: u32, flag: bool) -> u32
-    requires { ⌜ (1 ≤ variable) × (variable ≤ 256) ⌝ }
-    ensures { λ r. ⌜ ((B C D : ℕ) → ruleIn (now (rules .entry)) variable ≡ call B C D → r ≡ cond flag C D) ⌝ }
-{
-    let word = rules[variable as usize - 1];
-    if flag {
-        return word / 256 % 256 + 1;
-    }
-    word % 256 + 1
 }
 
 // Where a call comes back to: the position on success, the start on failure.

@@ -16,7 +16,7 @@ use Rattle.memo.specs.declared.Answer.{Answer}
 use Rattle.memo.specs.declared.Walk.{Walk}
 use Rattle.memo.specs.declared.Walk.the-variants as walk
 use Rattle.memo.proofs.Cleared.{cleared, cleared-length, cleared-at, cleared-later, before-is, walk-ready}
-use Rattle.memo.proofs.Finished.{close-ready, no-open, answers}
+use Rattle.memo.proofs.Finished.{close-ready, no-open, leaves, answers}
 
 pub code-of : (n c : ℕ) (r : Result) → Settled n c r → Code c
 code-of n c failure m = inl (m .code-is)
@@ -40,15 +40,15 @@ module _ {rule : ℕ → Rule} {s : List ℕ} {v A p : ℕ} {T W : List ℕ} (r 
     pub may-finish : (end : Walk) → WalkEnds rule s v (A at p) (before (length s) (A at p) T₁) T₂ W W₁ end → FinishReady (length s) v A p T₂ W₁ end
     may-finish (walk.Settled c) h =
         let m = room-before in
-        let z = h .size in
+        let z = h .table .size in
         let k = h .settled-code in
-        record { few = r .few; short = r .short; room = omega arith; code-is = code-of (length s) (c .0) (k .0) (k .1); no-open = no-open h (h .stops-at) }
-    may-finish (walk.Loop a d B q) h =
-        close-ready h A p B q 2 refl (r .few) (r .short) (λ z. omega arith) room-before (r .work-room) (r .within) (h .stops-at)
-    may-finish (walk.Missing B q) h =
-        close-ready h A p B q 3 refl (r .few) (r .short) (λ z. omega arith) room-before (r .work-room) (r .within) (h .stops-at)
-    may-finish (walk.End B q) h =
-        close-ready h A p B q 4 refl (r .few) (r .short) (λ z. omega arith) room-before (r .work-room) (r .within) (h .stops-at)
+        record { few = r .few; short = r .short; room = omega arith; code-is = code-of (length s) (c .0) (k .0) (k .1); no-open = no-open (h .table) (h .stops-at) }
+    may-finish (walk.Loop a e B q d) h =
+        close-ready h A p B q 2 refl (r .few) (r .short) (λ z. omega arith) room-before (r .work-room) (h .stops-at)
+    may-finish (walk.Missing B q d) h =
+        close-ready h A p B q 3 refl (r .few) (r .short) (λ z. omega arith) room-before (r .work-room) (h .stops-at)
+    may-finish (walk.End B q d) h =
+        close-ready h A p B q 4 refl (r .few) (r .short) (λ z. omega arith) room-before (r .work-room) (h .stops-at)
 
     -- The answer.
     pub asked : {T₃ : List ℕ} {end : Walk} (a : Answer) → WalkEnds rule s v (A at p) (before (length s) (A at p) T₁) T₂ W W₁ end → Finishes (length s) v end T₂ T₃ a
@@ -57,7 +57,7 @@ module _ {rule : ℕ → Rule} {s : List ℕ} {v A p : ℕ} {T W : List ℕ} (r 
         let N = cells v (length s) in (
           _,
           f .says,
-          answers h T₃ T (λ i l. ap (λ (C : List ℕ). getD C i 0) before-cleared ∙ cleared-at N T i l) (ap (drop N) before-cleared ∙ cleared-later N T)
+          answers h (leaves (h .table) T₃ T (λ i l. ap (λ (C : List ℕ). getD C i 0) before-cleared ∙ cleared-at N T i l) (ap (drop N) before-cleared ∙ cleared-later N T)
               (ap length before-cleared ∙ cleared-length N T (r .room)) (f .closes) (r .short)
-              (λ y k. reached-cell rule s v (r .closed) (A at p) (r .within) k .0),
+              (λ y k. reached-cell rule s v (r .closed) (A at p) (r .within) k .0)),
         )

@@ -1,4 +1,5 @@
 -- What looking at a pair finds, in the words of the theory of calls: the pair's cell number is a number of the system. Assumes nothing.
+use mathlib.Core.Bool.{Bool}
 use mathlib.Core.Path.{_≡_, sym, ap, _∙_, subst}
 use mathlib.Core.List.{List, _∷_}
 use Prim.Native.Nat.{ℕ, _≤_}
@@ -48,7 +49,7 @@ module _ (rule : ℕ → Rule) (s : List ℕ) (v : ℕ) (closed : Closed v rule)
     settled-at y {r} e m = ap (view mark T) e ∙ mark-settled (length s) (held (length s) T y) r short m
 
     -- A called pair is linked to its caller.
-    pub called-link : {x y : Pair} → PairWithin v (length s) x → Called rule s T x y → Link (gtsCells rule s) (view mark T) (cell (length s) x) (cell (length s) y)
+    pub called-link : {k : Bool} {x y : Pair} → PairWithin v (length s) x → Called rule s T k x y → Link (gtsCells rule s) (view mark T) (cell (length s) x) (cell (length s) y)
     called-link w (first-called {A} {B} {C} {D} {p} e) = link-first (cell-calls A p B C D w e) (sym (cell-first A p B C D w e))
     called-link w (second-called {A} {B} {C} {D} {p} {t} e m) =
         link-second (cell-calls A p B C D w e) (settled-at (B at p) (cell-first A p B C D w e) m) (sym (cell-second A p B C D w e t))

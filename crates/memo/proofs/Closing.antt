@@ -1,9 +1,9 @@
 -- Closing the open cells one by one, along the trail. Assumes nothing.
 use mathlib.Core.Path.{_≡_, refl, sym, ap, _∙_, subst}
-use mathlib.Core.Bool.{cond}
+use mathlib.Core.Bool.{Bool, cond}
 use mathlib.Core.List.{List, [], _∷_, List·Memᴰ, List·Memᴰ·cases-cons, List·Memᴰ·not-nil}
 use mathlib.Core.Logic.{_⊎_, inl, inr, _≢_}
-use Prim.Native.Nat.{ℕ, _/_, _%_, _<_}
+use Prim.Native.Nat.{ℕ, suc, _/_, _%_, _≤_, _<_}
 use native.Mathlib.Decide.{ℕ-discrete}
 use native.Mathlib.Omega.{arith}
 use lib.Dec.{eqb}
@@ -15,38 +15,35 @@ use Rattle.calls.proofs.Table.{Mark, opened, settled, cost, weight, weight-fall
 use Rattle.schema.specs.Derivation.{Pair, _at_, Result, failure}
 use Rattle.schema.specs.Table.{Within, cell, cells, held}
 use Rattle.schema.proofs.Cell.{pairOf, PairWithin, cell-below, cell-one, cell-pair, pair-within}
-use Rattle.memo.specs.Walk.{openMark, packed, Trail, only-asked, called-by, CloseReady, Closes}
+use Rattle.memo.specs.Walk.{openMark, entry, Trail, only-asked, called-by, CloseReady, Closes}
+use Rattle.memo.proofs.Entry.{entry-parts}
 
 -- Open, or not: what is still to be closed.
 unfoldable pub openOr : ℕ → Mark Result
 openOr c = cond (eqb c openMark) opened (settled failure)
 
--- The asked pair stands at the end of the trail, and nowhere else.
-trail-asked : {n : ℕ} {W : List ℕ} {root y : Pair} {ps : List Pair} → Trail n W root (y ∷ ps) → List·Memᴰ root (y ∷ ps)
-trail-asked only-asked = List·Memᴰ.List·Memᴰ·head refl
-trail-asked (called-by d e t) = List·Memᴰ.List·Memᴰ·tail (trail-asked t)
+-- With no caller in the work slice the asked pair is the only one;
+at-asked : {W : List ℕ} {root y : Pair} {ps : List Pair} → Trail W root 0 (y ∷ ps) → ps ≡ []
+at-asked only-asked = refl
 
-at-asked : {n : ℕ} {W : List ℕ} {root y : Pair} {ps : List Pair} → y ≡ root → Trail n W root (y ∷ ps) → ps ≡ []
-at-asked r only-asked = refl
-at-asked {y = y} r (called-by {x = x} {ps = ps} d e t) = absurd (d (subst (λ (u : Pair). List·Memᴰ u (x ∷ ps)) (sym r) (trail-asked t)))
-
--- Elsewhere the caller is next.
-pub record Next (n : ℕ) (W : List ℕ) (root y : Pair) (ps : List Pair) : Type 0 where
+-- else the latest caller is next.
+pub record Next (W : List ℕ) (root y : Pair) (d : ℕ) (ps : List Pair) : Type 0 where
   pub caller : Pair
+  pub second : Bool
   pub rest : List Pair
   pub rest-is : ps ≡ caller ∷ rest
-  pub name-is : getD W (cell n y) 0 ≡ packed caller
-  pub trail : Trail n W root (caller ∷ rest)
+  pub name-is : getD W d 0 ≡ entry second caller
+  pub trail : Trail W root d (caller ∷ rest)
   pub fresh : ¬ List·Memᴰ y ps
 
-next-of : {n : ℕ} {W : List ℕ} {root y : Pair} {ps : List Pair} → y ≢ root → Trail n W root (y ∷ ps) → Next n W root y ps
-next-of d only-asked = absurd (d refl)
-next-of d (called-by {x = x} {ps = ps} f e t) = record { caller = x; rest = ps; rest-is = refl; name-is = e; trail = t; fresh = f }
+next-of : {W : List ℕ} {root y : Pair} {d : ℕ} {ps : List Pair} → Trail W root (suc d) (y ∷ ps) → Next W root y d ps
+next-of (called-by {x = x} {ps = ps} k f e t) = record { caller = x; second = k; rest = ps; rest-is = refl; name-is = e; trail = t; fresh = f }
 
--- Before the cell of a at p is closed, with c, from the table T₀.
-pub record Closing (n v : ℕ) (root : Pair) (c : ℕ) (T₀ T W : List ℕ) (a p : ℕ) : Type 0 where
+-- Before the cell of a at p is closed, with c, from the table T₀; d callers are left.
+pub record Closing (n v : ℕ) (root : Pair) (c : ℕ) (T₀ T W : List ℕ) (a p d : ℕ) : Type 0 where
   pub rest : List Pair
-  pub trail : Trail n W root ((a at p) ∷ rest)
+  pub trail : Trail W root d ((a at p) ∷ rest)
+  pub deep : d ≤ cells v n
   pub within-all : (y : Pair) → List·Memᴰ y ((a at p) ∷ rest) → PairWithin v n y
   pub open-all : (y : Pair) → List·Memᴰ y ((a at p) ∷ rest) → held n T y ≡ openMark
   pub kept : (i : ℕ) → getD T₀ i 0 ≢ openMark → getD T i 0 ≡ getD T₀ i 0
@@ -54,7 +51,7 @@ pub record Closing (n v : ℕ) (root : Pair) (c : ℕ) (T₀ T W : List ℕ) (a 
   pub later : drop (cells v n) T ≡ drop (cells v n) T₀
   pub size : length T ≡ length T₀
 
-module _ {n v A p B q c : ℕ} {T₀ W : List ℕ} (r : CloseReady n v A p B q c T₀ W) where
+module _ {n v A p B q c depth : ℕ} {T₀ W : List ℕ} (r : CloseReady n v A p B q depth c T₀ W) where
   within-pair : (y : Pair) → List·Memᴰ y ((B at q) ∷ r .rest) → PairWithin v n y
   within-pair (C at D) m = r .within-all C D m
 
@@ -64,10 +61,11 @@ module _ {n v A p B q c : ℕ} {T₀ W : List ℕ} (r : CloseReady n v A p B q c
   on-pair : (y : Pair) → PairWithin v n y → held n T₀ y ≡ openMark → List·Memᴰ y ((B at q) ∷ r .rest)
   on-pair (C at D) w e = r .on-trail C D w e
 
-  pub begins : Closing n v (A at p) c T₀ T₀ W B q
+  pub begins : Closing n v (A at p) c T₀ T₀ W B q depth
   begins = record {
     rest = r .rest;
     trail = r .trail;
+    deep = r .deep;
     within-all = within-pair;
     open-all = open-pair;
     kept = λ i d. refl;
@@ -76,7 +74,7 @@ module _ {n v A p B q c : ℕ} {T₀ W : List ℕ} (r : CloseReady n v A p B q c
     size = refl;
   }
 
-  module _ {T : List ℕ} {a d : ℕ} (g : Closing n v (A at p) c T₀ T W a d) where
+  module _ {T : List ℕ} {a d left : ℕ} (g : Closing n v (A at p) c T₀ T W a d left) where
     pub top-within : Within v n a d
     top-within = g .within-all (a at d) (List·Memᴰ.List·Memᴰ·head refl)
 
@@ -85,9 +83,6 @@ module _ {n v A p B q c : ℕ} {T₀ W : List ℕ} (r : CloseReady n v A p B q c
 
     pub top-in : cell n (a at d) < length T
     top-in = let l = top-below in let m = r .room in let z = g .size in omega arith
-
-    pub top-in-work : cell n (a at d) < length W
-    top-in-work = let l = top-below in let m = r .work-room in omega arith
 
     top-open : getD T (cell n (a at d)) 0 ≡ openMark
     top-open = g .open-all (a at d) (List·Memᴰ.List·Memᴰ·head refl)
@@ -121,9 +116,9 @@ module _ {n v A p B q c : ℕ} {T₀ W : List ℕ} (r : CloseReady n v A p B q c
         ]
 
     -- The asked pair was the last.
-    pub closes : cell n (a at d) ≡ cell n (A at p) → Closes (cells v n) c T₀ (set T (cell n (a at d)) c)
+    pub closes : left ≡ 0 → Closes (cells v n) c T₀ (set T (cell n (a at d)) c)
     closes e =
-        let none = at-asked (cell-one v n (a at d) (A at p) top-within (r .root-within) e) (g .trail) in
+        let none = at-asked (subst (λ (k : ℕ). Trail W (A at p) k ((a at d) ∷ g .rest)) e (g .trail)) in
         record {
           opened = λ i l h. elim (done-after i l h) [
             | inl k ↦ k
@@ -135,26 +130,23 @@ module _ {n v A p B q c : ℕ} {T₀ W : List ℕ} (r : CloseReady n v A p B q c
         }
 
     -- Its caller is next.
-    pub goes-on : cell n (a at d) ≢ cell n (A at p)
-        → Closing n v (A at p) c T₀ (set T (cell n (a at d)) c) W (getD W (cell n (a at d)) 0 / 8192) (getD W (cell n (a at d)) 0 % 8192)
-    goes-on h = step (next-of (λ e. h (ap (cell n) e)) (g .trail))
+    pub goes-on : (under : ℕ) → left ≡ suc under
+        → Closing n v (A at p) c T₀ (set T (cell n (a at d)) c) W (getD W under 0 / 16384) (getD W under 0 / 2 % 8192) under
+    goes-on under down = next (next-of (subst (λ (k : ℕ). Trail W (A at p) k ((a at d) ∷ g .rest)) down (g .trail)))
       where
-        step : Next n W (A at p) (a at d) (g .rest) → Closing n v (A at p) c T₀ (set T (cell n (a at d)) c) W (getD W (cell n (a at d)) 0 / 8192) (getD W (cell n (a at d)) 0 % 8192)
-        step k = named (k .caller) refl
+        next : Next W (A at p) (a at d) under (g .rest) → Closing n v (A at p) c T₀ (set T (cell n (a at d)) c) W (getD W under 0 / 16384) (getD W under 0 / 2 % 8192) under
+        next k = named (k .caller) refl
           where
-            named : (y : Pair) → k .caller ≡ y → Closing n v (A at p) c T₀ (set T (cell n (a at d)) c) W (getD W (cell n (a at d)) 0 / 8192) (getD W (cell n (a at d)) 0 % 8192)
+            named : (y : Pair) → k .caller ≡ y → Closing n v (A at p) c T₀ (set T (cell n (a at d)) c) W (getD W under 0 / 16384) (getD W under 0 / 2 % 8192) under
             named (C at D) y =
                 let m : (z : Pair) → List·Memᴰ z ((C at D) ∷ k .rest) → List·Memᴰ z (g .rest) =
                 λ z i. subst (List·Memᴰ z) (sym (k .rest-is ∙ ap (λ (u : Pair). u ∷ k .rest) y)) i in
                 let w : Within v n C D = g .within-all (C at D) (List·Memᴰ.List·Memᴰ·tail (m (C at D) (List·Memᴰ.List·Memᴰ·head refl))) in
-                let place = w .place in
-                let short = r .short in
-                let name = k .name-is ∙ ap packed y in
-                let e₁ : getD W (cell n (a at d)) 0 / 8192 ≡ C = omega (arith, name) in
-                let e₂ : getD W (cell n (a at d)) 0 % 8192 ≡ D = omega (arith, name) in
-                rw (e₁, e₂) (record {
+                let e = entry-parts (k .second) C D n (r .short) (w .place) (k .name-is ∙ ap (entry (k .second)) y) in
+                rw (e .variable, e .position) (record {
                   rest = k .rest;
-                  trail = subst (λ (u : Pair). Trail n W (A at p) (u ∷ k .rest)) y (k .trail);
+                  trail = subst (λ (u : Pair). Trail W (A at p) under (u ∷ k .rest)) y (k .trail);
+                  deep = let l = g .deep in omega arith;
                   within-all = λ z i. g .within-all z (List·Memᴰ.List·Memᴰ·tail (m z i));
                   open-all = λ z i.
                       getD-set-other T (cell n (a at d)) (cell n z) c 0

@@ -1,5 +1,6 @@
--- Where the walk ends: what its table, its work slice and its answer say of the pairs. Assumes nothing.
+-- Where the walk ends: what its table says of the pairs. Assumes nothing.
 use mathlib.Core.Path.{_≡_, refl, sym, ap, _∙_, subst}
+use mathlib.Core.Bool.{Bool}
 use mathlib.Core.List.{List, [], _∷_, map, List·Memᴰ, Memᴰ·map, Memᴰ·of-map}
 use mathlib.Core.Logic.{_⊎_, inl, inr, _≢_}
 use Prim.Native.Nat.{ℕ, _-_, _≤_, _<_}
@@ -7,15 +8,14 @@ use native.Mathlib.Omega.{arith}
 use borrow.Author.Tests.{eq-eqb, ne-eqb}
 use lib.ListN.{length, getD, set}
 use Rattle.calls.proofs.Ends.{End, end-value, end-loop, end-halt}
-use Rattle.calls.proofs.Follow.{In, mem-in, in-mem}
-use Rattle.calls.proofs.Links.{view, Linked, none, last, more}
+use Rattle.calls.proofs.Follow.{mem-in, in-mem}
+use Rattle.calls.proofs.Links.{view, at-root}
 use Rattle.calls.proofs.Reach.{Reach}
 use Rattle.calls.proofs.System.{Answer, value, halts, loops}
 use Rattle.calls.proofs.Table.{Mark, blank, opened, settled}
-use Rattle.calls.proofs.Trail as theory
 use Rattle.grammar.specs.Rule.{Rule}
 use Rattle.schema.specs.Closed.{Closed}
-use Rattle.schema.specs.Derivation.{Pair, _at_, Result, success, failure, Stop, missing, end, stops, act, Outcome, result, Has}
+use Rattle.schema.specs.Derivation.{Pair, _at_, Result, success, failure, Stop, stops, act, result, stopped, loop}
 use Rattle.schema.specs.Reached.{Reached}
 use Rattle.schema.specs.Table.{Within, cell, cells, held}
 use Rattle.schema.proofs.Answer.{gtsCells, gts-bounded, MarkHas, reached-cell, cell-reached, end-has, end-named, end-full, end-marks}
@@ -23,32 +23,14 @@ use Rattle.schema.proofs.Cell.{pairOf, PairWithin, cell-below, cell-pair, pair-
 use Rattle.schema.proofs.System as schema
 use Rattle.schema.proofs.System.{kindOf}
 use Rattle.schema.proofs.Waiting as waiting
-use Rattle.memo.specs.Walk.{openMark, Settled, Called, Given, Trail, nothing-open, only-asked, called-by, resultOf, outcomeOf, namedOf, StopsAt, SettledCode, HeldAt, WalkEnds}
-use Rattle.memo.specs.declared.Cell.{Cell}
-use Rattle.memo.specs.declared.Walk.{Walk}
-use Rattle.memo.specs.declared.Walk.the-variants as walk
+use Rattle.memo.specs.Walk.{openMark, Settled, Called, Given, resultOf, HeldAt, TableEnds}
 use Rattle.memo.proofs.Bridge.{cell-kind, called-link}
 use Rattle.memo.proofs.Marks.{mark, mark-open, stands}
-use Rattle.memo.proofs.Going.{name, Through, Going, called-within, settle-stops, settle-there}
-
--- The open cells as pairs.
-module _ (rule : ℕ → Rule) (s : List ℕ) (v : ℕ) (x : Pair) (w : PairWithin v (length s) x) {T : ℕ → Mark Result} {W : List ℕ} where
-  pub trail-pairs : {l : List ℕ} → theory.Trail (gtsCells rule s) T (cell (length s) x) l → Linked (name (length s)) W l
-      → Trail (length s) W x (map (pairOf (length s)) l)
-  trail-pairs theory.bottom none = nothing-open
-  trail-pairs theory.start last = subst (λ (y : Pair). Trail (length s) W x (y ∷ [])) (sym (pair-cell v (length s) x w)) only-asked
-  trail-pairs (theory.push {x = i} {y = j} {s = r} t n k) (more e l) =
-      called-by (λ m. fresh m) (ap (λ (u : ℕ). getD W u 0) (cell-pair (length s) j) ∙ e) (trail-pairs t l)
-    where
-      fresh : List·Memᴰ (pairOf (length s) j) (map (pairOf (length s)) (i ∷ r)) → ⊥
-      fresh m =
-          let o = Memᴰ·of-map (pairOf (length s)) (i ∷ r) m in
-          let e : o .0 ≡ j = sym (cell-pair (length s) (o .0)) ∙ ap (cell (length s)) (o .2) ∙ cell-pair (length s) j in
-          n (subst (λ (u : ℕ). In u (i ∷ r)) e (mem-in (o .0) (i ∷ r) (o .1)))
+use Rattle.memo.proofs.Through.{Through, called-within, settle-through, settle-there}
 
 module _ (rule : ℕ → Rule) (s : List ℕ) (v : ℕ) (closed : Closed v rule) (short : length s ≤ 4096) (x : Pair) (w : PairWithin v (length s) x)
-    (O U T W : List ℕ) (l : List ℕ) where
-  module _ (rest : Through rule s v x O U T W l) (a : Answer Result Stop) (z : ℕ) (end : End (gtsCells rule s) (cells v (length s)) (view mark O) (cell (length s) x) (view mark T) a z) where
+    (O T : List ℕ) (l : List ℕ) where
+  module _ (rest : Through rule s v x O T l) (a : Answer Result Stop) (z : ℕ) (end : End (gtsCells rule s) (cells v (length s)) (view mark O) (cell (length s) x) (view mark T) a z) where
     held-at : (y : Pair) → Reached rule s x y → HeldAt rule s T (schema.outcomeOf a) y
     held-at y r = go (mark (held (length s) T y)) refl
       where
@@ -93,24 +75,18 @@ module _ (rule : ℕ → Rule) (s : List ℕ) (v : ℕ) (closed : Closed v rule)
           subst (λ (u : ℕ). getD T u 0 ≡ openMark) e (stands (length s) (getD T (o .0) 0) opened (rest .fits (o .0) b) (rest .inv .on-open (o .0) i)),
         )
 
-    -- The end of the walk.
-    pub walk-ends : (r : Walk) → schema.outcomeOf a ≡ outcomeOf r → waiting.namedOf a (pairOf (length s) z) ≡ namedOf r
-        → StopsAt r (map (pairOf (length s)) l) → SettledCode (length s) r → WalkEnds rule s v x O T U W r
-    walk-ends r e f t c = record {
-      has = subst (Has rule s x) e (end-has rule s v closed x w end);
-      names = rw (← e, ← f) (end-named rule s v closed x w end);
-      reached = λ y k. subst (λ (o : Outcome). HeldAt rule s T o y) e (held-at y k);
+    -- The table at the end.
+    pub table-ends : (named : Pair) → waiting.namedOf a (pairOf (length s) z) ≡ named
+        → TableEnds rule s v x O T (schema.outcomeOf a) named (map (pairOf (length s)) l)
+    table-ends named f = record {
+      has = end-has rule s v closed x w end;
+      names = rw (← f) (end-named rule s v closed x w end);
+      reached = held-at;
       others = others;
-      opens = map (pairOf (length s)) l;
-      trail = trail-pairs rule s v x w (rest .inv .trail) (rest .linked);
-      stops-at = t;
       on-trail = on-trail;
       trail-open = trail-open;
-      settled-code = c;
       later = rest .later;
       size = rest .size;
-      work-later = rest .work-later;
-      work-size = rest .work-size;
     }
 
 -- A settled code stands for its result.
@@ -121,48 +97,46 @@ result-is n c (success q) m =
     let f : c - 5 ≡ q = omega arith in
     rw (ne-eqb c 1 (λ z. omega arith), f)
 
--- ---- The three ways to end, from the loop's invariant.
+-- ---- The three ways to end, from what holds all through.
 
 module _ (rule : ℕ → Rule) (s : List ℕ) (v : ℕ) (closed : Closed v rule) (few : v ≤ 256) (short : length s ≤ 4096) {x : Pair} (w : PairWithin v (length s) x)
-    {O U T W : List ℕ} {a p : ℕ} (g : Going rule s v x O U T W a p) where
+    {O T : List ℕ} {a p : ℕ} {stack : List ℕ} (within : Within v (length s) a p) (g : Through rule s v x O T (cell (length s) (a at p) ∷ stack)) where
   root-below : cell (length s) x < cells v (length s)
   root-below = cell-below v (length s) x w
 
-  stops-here : (ps : List Pair) × (map (pairOf (length s)) (cell (length s) (a at p) ∷ g .stack) ≡ (a at p) ∷ ps)
-  stops-here = (map (pairOf (length s)) (g .stack), ap (λ (y : Pair). y ∷ map (pairOf (length s)) (g .stack)) (pair-cell v (length s) (a at p) (g .within)))
+  abbrev opens-here : List Pair
+  opens-here = map (pairOf (length s)) (cell (length s) (a at p) ∷ stack)
+
+  -- The latest open pair is the first.
+  pub stops-here : (ps : List Pair) × (opens-here ≡ (a at p) ∷ ps)
+  stops-here = (map (pairOf (length s)) stack, ap (λ (y : Pair). y ∷ map (pairOf (length s)) stack) (pair-cell v (length s) (a at p) within))
 
   -- A called pair is open.
-  pub again-ends : (b q : ℕ) → Called rule s T (a at p) (b at q) → held (length s) T (b at q) ≡ openMark → WalkEnds rule s v x O T U W (walk.Loop b q a p)
+  pub again-ends : {k : Bool} (b q : ℕ) → Called rule s T k (a at p) (b at q) → held (length s) T (b at q) ≡ openMark
+      → TableEnds rule s v x O T loop (b at q) opens-here
   again-ends b q c e =
-      walk-ends rule s v closed short x w O U T W (cell (length s) (a at p) ∷ g .stack) (g .through) loops (cell (length s) (b at q))
-      (end-loop (gtsCells rule s) (cells v (length s)) (gts-bounded rule s v closed) root-below (g .through .inv) (called-link rule s v closed short T (g .within) c)
+      table-ends rule s v closed short x w O T (cell (length s) (a at p) ∷ stack) g loops (cell (length s) (b at q))
+      (end-loop (gtsCells rule s) (cells v (length s)) (gts-bounded rule s v closed) root-below (g .inv) (called-link rule s v closed short T within c)
       (mark-open (held (length s) T (b at q)) e))
-      (walk.Loop b q a p) refl (pair-cell v (length s) (b at q) (called-within rule s v closed few short (g .within) c)) stops-here tt
-
-  stuck-end : (t : Stop) → act rule s (a at p) ≡ stops t
-      → End (gtsCells rule s) (cells v (length s)) (view mark O) (cell (length s) x) (view mark T) (halts t) (cell (length s) (a at p))
-  stuck-end t e =
-      end-halt (gtsCells rule s) (cells v (length s)) (gts-bounded rule s v closed) root-below (g .through .inv) (cell-kind rule s v closed (a at p) (g .within) ∙ ap kindOf e)
+      (b at q) (pair-cell v (length s) (b at q) (called-within rule s v closed few short within c))
 
   -- The pair has no rule, or no byte.
-  pub missing-ends : act rule s (a at p) ≡ stops missing → WalkEnds rule s v x O T U W (walk.Missing a p)
-  missing-ends e =
-      walk-ends rule s v closed short x w O U T W (cell (length s) (a at p) ∷ g .stack) (g .through) (halts missing) (cell (length s) (a at p)) (stuck-end missing e)
-      (walk.Missing a p) refl (pair-cell v (length s) (a at p) (g .within)) stops-here tt
-
-  pub end-ends : act rule s (a at p) ≡ stops end → WalkEnds rule s v x O T U W (walk.End a p)
-  end-ends e =
-      walk-ends rule s v closed short x w O U T W (cell (length s) (a at p) ∷ g .stack) (g .through) (halts end) (cell (length s) (a at p)) (stuck-end end e)
-      (walk.End a p) refl (pair-cell v (length s) (a at p) (g .within)) stops-here tt
+  pub stuck-ends : (t : Stop) → act rule s (a at p) ≡ stops t → TableEnds rule s v x O T (stopped t) (a at p) opens-here
+  stuck-ends t e =
+      table-ends rule s v closed short x w O T (cell (length s) (a at p) ∷ stack) g (halts t) (cell (length s) (a at p))
+      (end-halt (gtsCells rule s) (cells v (length s)) (gts-bounded rule s v closed) root-below (g .inv)
+      (cell-kind rule s v closed (a at p) within ∙ ap kindOf e))
+      (a at p) (pair-cell v (length s) (a at p) within)
 
   -- The asked pair has its result.
-  pub settle-ends : (room : cells v (length s) ≤ length O) (c : Cell) (r : Result) → Settled (length s) (c .0) r → Given rule s T (a at p) r
-      → cell (length s) (a at p) ≡ cell (length s) x → WalkEnds rule s v x O (set T (cell (length s) (a at p)) (c .0)) U W (walk.Settled c)
+  pub settle-ends : (room : cells v (length s) ≤ length O) (c : ℕ) (r : Result) → Settled (length s) c r → Given rule s T (a at p) r
+      → cell (length s) (a at p) ≡ cell (length s) x → TableEnds rule s v x O (set T (cell (length s) (a at p)) c) (result (resultOf c)) (0 at 0) []
   settle-ends room c r m h e =
       let top = cell (length s) (a at p) in
-      let t = settle-stops rule s v closed few short g room (c .0) r m h e in
-      let z = settle-there rule s v closed few short g room (c .0) r m h in
-      walk-ends rule s v closed short x w O U (set T top (c .0)) W [] t (value r) (cell (length s) x)
+      let z = at-root (gtsCells rule s) e (g .inv .trail) in
+      let t = subst (Through rule s v x O (set T top c)) z (settle-through rule s v closed few short within g room c r m h) in
+      let f = settle-there rule s v closed few short within g room c r m h in
+      subst (λ (u : Result). TableEnds rule s v x O (set T top c) (result u) (0 at 0) []) (sym (result-is (length s) c r m))
+      (table-ends rule s v closed short x w O (set T top c) [] t (value r) (cell (length s) x)
       (end-value (gtsCells rule s) (cells v (length s)) (gts-bounded rule s v closed) root-below (cell (length s) x) (t .inv)
-      (ap (view mark (set T top (c .0))) (sym e) ∙ z))
-      (walk.Settled c) (ap result (sym (result-is (length s) (c .0) r m))) refl refl (r, m)
+      (ap (view mark (set T top c)) (sym e) ∙ f)) (0 at 0) refl)

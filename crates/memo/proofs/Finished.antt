@@ -6,15 +6,15 @@ use Prim.Native.Nat.{ℕ, _≤_, _<_}
 use native.Mathlib.Omega.{arith}
 use lib.ListN.{length, getD, take, drop}
 use Rattle.grammar.specs.Rule.{Rule}
-use Rattle.schema.specs.Derivation.{Pair, _at_, Result, success, failure, end, result}
+use Rattle.schema.specs.Derivation.{Pair, _at_, Result, success, failure, Outcome, result}
 use Rattle.schema.specs.Reached.{Reached}
-use Rattle.schema.specs.Table.{Within, cell, cells, code, decided, held, Holds, blanked}
+use Rattle.schema.specs.Table.{Within, cell, cells, code, decided, held, Holds, blanked, Table}
 use Rattle.schema.proofs.Cell.{pairOf, PairWithin, cell-below, cell-pair, pair-within}
 use Rattle.grammar.specs.Refusal.{accepted}
 use Rattle.memo.specs.Answer.{reply, told, Answers}
 use Rattle.memo.specs.Finish.{Finishes}
 use Rattle.memo.specs.declared.Answer.{Answer}
-use Rattle.memo.specs.Walk.{openMark, Settled, outcomeOf, namedOf, HeldAt, WalkEnds, CloseReady, Closes}
+use Rattle.memo.specs.Walk.{openMark, Settled, outcomeOf, namedOf, depthOf, HeldAt, TableEnds, WalkEnds, CloseReady, Closes}
 use Rattle.memo.specs.declared.Walk.{Walk}
 
 -- Where no cell is open, there is nothing to close.
@@ -23,10 +23,10 @@ none-closes n = record { opened = λ i l h. absurd (n i l h); others = λ i d. r
 
 module _ {rule : ℕ → Rule} {s : List ℕ} {v : ℕ} {x : Pair} {O T U W : List ℕ} {r : Walk} (ends : WalkEnds rule s v x O T U W r) where
   -- What the call to close is handed.
-  pub close-ready : (A p B q c : ℕ) → x ≡ A at p → v ≤ 256 → length s ≤ 4096 → c ≢ openMark → cells v (length s) ≤ length O → cells v (length s) ≤ length U → Within v (length s) A p
-      → (ps : List Pair) × (ends .opens ≡ (B at q) ∷ ps) → CloseReady (length s) v A p B q c T W
-  close-ready A p B q c e few short d room work-room w t =
-      let z = ends .size in
+  pub close-ready : (A p B q c : ℕ) → x ≡ A at p → v ≤ 256 → length s ≤ 4096 → c ≢ openMark → cells v (length s) ≤ length O → cells v (length s) ≤ length U
+      → (ps : List Pair) × (ends .opens ≡ (B at q) ∷ ps) → CloseReady (length s) v A p B q (depthOf r) c T W
+  close-ready A p B q c e few short d room work-room t =
+      let z = ends .table .size in
       let y = ends .work-size in
       record {
         few = few;
@@ -34,22 +34,24 @@ module _ {rule : ℕ → Rule} {s : List ℕ} {v : ℕ} {x : Pair} {O T U W : Li
         not-open = d;
         room = omega arith;
         work-room = omega arith;
-        root-within = w;
+        deep = ends .deep;
         rest = t .0;
         trail = rw (← e, ← t .1) (ends .trail);
-        within-all = λ C D m. ends .trail-open C D (subst (List·Memᴰ (C at D)) (sym (t .1)) m) .0;
-        open-all = λ C D m. ends .trail-open C D (subst (List·Memᴰ (C at D)) (sym (t .1)) m) .1;
-        on-trail = λ C D i h. subst (List·Memᴰ (C at D)) (t .1) (ends .on-trail C D i h);
+        within-all = λ C D m. ends .table .trail-open C D (subst (List·Memᴰ (C at D)) (sym (t .1)) m) .0;
+        open-all = λ C D m. ends .table .trail-open C D (subst (List·Memᴰ (C at D)) (sym (t .1)) m) .1;
+        on-trail = λ C D i h. subst (List·Memᴰ (C at D)) (t .1) (ends .table .on-trail C D i h);
       }
 
+module _ {rule : ℕ → Rule} {s : List ℕ} {v : ℕ} {x : Pair} {O T : List ℕ} {o : Outcome} {named : Pair} {opens : List Pair}
+    (ends : TableEnds rule s v x O T o named opens) where
   -- Where nothing is open.
-  pub no-open : ends .opens ≡ [] → (i : ℕ) → i < cells v (length s) → getD T i 0 ≢ openMark
+  pub no-open : opens ≡ [] → (i : ℕ) → i < cells v (length s) → getD T i 0 ≢ openMark
   no-open e i l h =
       let o = ends .on-trail _ _ (pair-within v (length s) i l) (ap (λ (j : ℕ). getD T j 0) (cell-pair (length s) i) ∙ h) in
       List·Memᴰ·not-nil (subst (List·Memᴰ (pairOf (length s) i)) e o)
 
   module _ (T′ table : List ℕ) (blank : (i : ℕ) → i < cells v (length s) → getD O i 0 ≡ 0) (later : drop (cells v (length s)) O ≡ drop (cells v (length s)) table)
-      (size : length O ≡ length table) (closes : Closes (cells v (length s)) (code (outcomeOf r)) T T′) (short : length s ≤ 4096)
+      (size : length O ≡ length table) (closes : Closes (cells v (length s)) (code o) T T′) (short : length s ≤ 4096)
       (inside : (y : Pair) → Reached rule s x y → PairWithin v (length s) y) where
     settled-closed : {n c : ℕ} (t : Result) → n ≤ 4096 → Settled n c t → c ≢ openMark
     settled-closed (success q) l m z = let e = m .code-is in let f = m .ends in omega arith
@@ -58,9 +60,9 @@ module _ {rule : ℕ → Rule} {s : List ℕ} {v : ℕ} {x : Pair} {O T U W : Li
     holds : (y : Pair) → Reached rule s x y → Holds rule s T′ y
     holds y k = go (ends .reached y k)
       where
-        go : HeldAt rule s T (outcomeOf r) y → Holds rule s T′ y
+        go : HeldAt rule s T o y → Holds rule s T′ y
         go (inl h) = (result (h .0), h .1, closes .others (cell (length s) y) (settled-closed (h .0) short (h .2)) ∙ h .2 .code-is)
-        go (inr h) = (outcomeOf r, h .0, closes .opened (cell (length s) y) (cell-below v (length s) y (inside y k)) (h .1))
+        go (inr h) = (o, h .0, closes .opened (cell (length s) y) (cell-below v (length s) y (inside y k)) (h .1))
 
     others : (A p : ℕ) → Within v (length s) A p → held (length s) T′ (A at p) ≢ blanked (A at p) → Reached rule s x (A at p)
     others A p w d = ends .others A p w (λ e. d (same e))
@@ -70,23 +72,28 @@ module _ {rule : ℕ → Rule} {s : List ℕ} {v : ℕ} {x : Pair} {O T U W : Li
             let z = blank (cell (length s) (A at p)) (cell-below v (length s) (A at p) w) in
             closes .others (cell (length s) (A at p)) (λ h. omega arith) ∙ e ∙ z
 
-    -- The answer, once all cells are closed.
-    pub answers : Answers rule v s x table T′ U W (reply (outcomeOf r) (namedOf r) (decided (take (cells v (length s)) T′)))
-    answers = record {
-      outcome = outcomeOf r;
-      named = namedOf r;
-      has = ends .has;
-      names = ends .names;
-      says = refl;
-      leaves = record {
-        holds = holds;
-        others = others;
-        later = closes .later ∙ ends .later ∙ later;
-        size = closes .size ∙ ends .size ∙ size;
-      };
-      beyond = ends .work-later;
-      size = ends .work-size;
+    -- The table, once all cells are closed.
+    pub leaves : Table rule s v x blanked table T′
+    leaves = record {
+      holds = holds;
+      others = others;
+      later = closes .later ∙ ends .later ∙ later;
+      size = closes .size ∙ ends .size ∙ size;
     }
+
+-- The answer.
+pub answers : {rule : ℕ → Rule} {s : List ℕ} {v : ℕ} {x : Pair} {O T U W table T′ : List ℕ} {r : Walk} → (ends : WalkEnds rule s v x O T U W r)
+    → Table rule s v x blanked table T′ → Answers rule v s x table T′ U W (reply (outcomeOf r) (namedOf r) (decided (take (cells v (length s)) T′)))
+answers {r = r} ends l = record {
+  outcome = outcomeOf r;
+  named = namedOf r;
+  has = ends .table .has;
+  names = ends .table .names;
+  says = refl;
+  leaves = l;
+  beyond = ends .work-later;
+  size = ends .work-size;
+}
 
 -- The last step, by what the walk ended with.
 pub finishes : (n v : ℕ) {count : ℕ} (T T′ : List ℕ) {end : Walk} (r : Answer) (known : Walk) → end ≡ known → Closes (cells v n) (code (outcomeOf known)) T T′

@@ -2,12 +2,11 @@
 use mathlib.Core.Path.{_≡_, refl, ap, _∙_, subst}
 use mathlib.Core.List.{List, [], _∷_, _++_}
 use mathlib.Core.Logic.{inl, _≢_}
-use Prim.Native.Nat.{ℕ, _+_, _*_, _/_, _%_, _≤_, _<_}
+use Prim.Native.Nat.{ℕ, _+_, _*_, _/_, _%_, _≤_}
 use native.Mathlib.Omega.{arith}
 use lib.ListN.{length, getD, set, take, drop, length-set, length-append}
 use lib.Seq.{drop-set-lt}
-use Rattle.calls.proofs.Follow.{In}
-use Rattle.calls.proofs.Links.{linked-set, at-root, off-root}
+use Rattle.calls.proofs.Links.{Linked, linked-set, at-root, off-root}
 use Rattle.calls.proofs.Table.{opened}
 use Rattle.calls.proofs.Trail.{trail-fresh}
 use Rattle.grammar.specs.Rule.{Rule}
@@ -20,7 +19,8 @@ use Rattle.schema.proofs.Cell.{cell-below, cell-pair, pair-within}
 use Rattle.memo.specs.Walk.{openMark, Settled, Given}
 use Rattle.memo.specs.Writer.{Visits}
 use Rattle.memo.specs.Writing.{Lays}
-use Rattle.memo.proofs.Going.{Through, settle-through, settle-put}
+use Rattle.memo.proofs.Going.{name}
+use Rattle.memo.proofs.Through.{Through, settle-through, settle-put}
 use Rattle.memo.proofs.Ended.{result-is}
 use Rattle.memo.proofs.Lines.{line-laid}
 use Rattle.memo.proofs.Marks.{stands}
@@ -29,27 +29,13 @@ use Rattle.memo.proofs.Visiting.{Frames, Written, pair-visited}
 use Rattle.memo.proofs.WrittenCells.{written-settled}
 use Rattle.memo.proofs.Laying.{Writing, output-length, cell-in-table, cell-in-work}
 
--- The work slice of a pair that is no longer open is free.
-work-set : {rule : ℕ → Rule} {s : List ℕ} {v : ℕ} {x : Pair} {O U T W l : List ℕ} → Through rule s v x O U T W l → (y k : ℕ) → y < cells v (length s) → ¬ In y l
-    → Through rule s v x O U T (set W y k) l
-work-set {s = s} {v = v} {W = W} t y k b n = record {
-  inv = t .inv;
-  linked = linked-set y k n (t .linked);
-  fits = t .fits;
-  changed = t .changed;
-  later = t .later;
-  size = t .size;
-  work-later = drop-set-lt (cells v (length s)) W y k b ∙ t .work-later;
-  work-size = length-set W y k ∙ t .work-size;
-}
-
 module _ (rule : ℕ → Rule) (s : List ℕ) (v : ℕ) (closed : Closed v rule) (few : v ≤ 256) (short : length s ≤ 4096) {x : Pair} {O U out₀ T W out : List ℕ}
     {a p count : ℕ} (g : Writing rule s v x O U out₀ T W out a p count) (room : cells v (length s) ≤ length O) (work-room : cells v (length s) ≤ length U) where
   module _ (c : ℕ) (r : Result) (m : Settled (length s) c r) (given : Given rule s T (a at p) r) where
     one-less : remaining (set T (cell (length s) (a at p)) c) (cells v (length s)) + 1 ≡ remaining T (cells v (length s))
     one-less =
         remaining-settled T (set T (cell (length s) (a at p)) c) (cells v (length s)) (cell (length s) (a at p))
-        (cell-below v (length s) (a at p) (g .going .within)) (settle-put rule s v closed few short (g .going) room c r m given)
+        (cell-below v (length s) (a at p) (g .going .within)) (settle-put rule s v closed few short (g .going .within) (g .going .through) room c r m given)
         (g .going .through .inv .on-open (cell (length s) (a at p)) (inl refl))
 
     -- There is room for one line more.
@@ -102,11 +88,12 @@ module _ (rule : ℕ → Rule) (s : List ℕ) (v : ℕ) (closed : Closed v rule)
       settles-writing d =
           let n = length s in
           let i = cell n (a at p) in
-          let f = off-root (gtsCells rule s) d (g .going .through .inv .trail) (g .going .through .linked) in
+          let f = off-root (gtsCells rule s) d (g .going .through .inv .trail) (g .going .linked) in
           let y = f .0 in
           let free = trail-fresh (gtsCells rule s) (g .going .through .inv .trail) in
-          let through = subst (Through rule s v x O U (set T i c) (set W i (count + 1))) (f .2)
-          (work-set (settle-through rule s v closed few short (g .going) room c r m given (f .4)) i (count + 1) (cell-below v n (a at p) (g .going .within)) free) in
+          let b = cell-below v n (a at p) (g .going .within) in
+          let through = subst (Through rule s v x O (set T i c)) (f .2) (settle-through rule s v closed few short (g .going .within) (g .going .through) room c r m given) in
+          let linked = subst (Linked (name n) (set W i (count + 1))) (f .2) (linked-set i (count + 1) free (f .4)) in
           let h = subst (λ (l : List ℕ). Frames rule s x l next-lines) (f .2)
           (g .resume next-lines visited) in
           let w = pair-within v n y (through .inv .below y (inl refl)) in
@@ -114,7 +101,14 @@ module _ (rule : ℕ → Rule) (s : List ℕ) (v : ℕ) (closed : Closed v rule)
           let e₁ : getD W i 0 / 8192 ≡ y / (n + 1) + 1 = omega (arith, f .3) in
           let e₂ : getD W i 0 % 8192 ≡ y % (n + 1) = omega (arith, f .3) in
           rw (e₁, e₂) (record {
-            going = record { stack = f .1; within = w; through = rw (cell-pair n y) through };
+            going = record {
+              stack = f .1;
+              within = w;
+              through = rw (cell-pair n y) through;
+              linked = rw (cell-pair n y) linked;
+              work-later = drop-set-lt (cells v n) W i (count + 1) b ∙ g .going .work-later;
+              work-size = length-set W i (count + 1) ∙ g .going .work-size;
+            };
             lines = next-lines;
             counted = counted-next;
             laid = laid-next;

@@ -1,6 +1,7 @@
 -- The loop of the walk that writes: what holds before each look, and what each step keeps. Assumes nothing.
+use mathlib.Core.Bool.{Bool}
 use mathlib.Core.Path.{_≡_, refl, sym, _∙_, subst}
-use mathlib.Core.List.{List, [], _∷_, _++_}
+use mathlib.Core.List.{List, [], _++_}
 use mathlib.Core.Logic.{_≢_}
 use Prim.Native.Nat.{ℕ, _+_, _*_, _≤_, _<_}
 use native.Mathlib.Omega.{arith}
@@ -18,7 +19,8 @@ use Rattle.schema.proofs.Cell.{pairOf, PairWithin, cell-below, cell-pair, pair-
 use Rattle.memo.specs.Walk.{openMark, Unsettled, Settled, Called, packed, before}
 use Rattle.memo.specs.Writer.{Unwritten, Visits}
 use Rattle.memo.specs.Writing.{WriteReady}
-use Rattle.memo.proofs.Going.{Going, begins, open-within, open-through, open-put, open-blank}
+use Rattle.memo.proofs.Going.{Going, begins, open-goes}
+use Rattle.memo.proofs.Through.{open-within, open-put, open-blank}
 use Rattle.memo.proofs.Lines.{stands-none, laid-length}
 use Rattle.memo.proofs.Marks.{mark, stands}
 use Rattle.memo.proofs.Remaining.{remaining, remaining-all, remaining-opened}
@@ -89,23 +91,19 @@ module _ (rule : ℕ → Rule) (s : List ℕ) (v : ℕ) (closed : Closed v rule)
 
     -- and in the work slice.
     pub cell-in-work : (y : Pair) → PairWithin v (length s) y → cell (length s) y < length W
-    cell-in-work y i = let z = g .going .through .work-size in let b = cell-below v (length s) y i in omega arith
+    cell-in-work y i = let z = g .going .work-size in let b = cell-below v (length s) y i in omega arith
 
     -- A called pair is opened.
-    pub opens-writing : (b q : ℕ) → Called rule s T (a at p) (b at q) → Unsettled (held (length s) T (b at q)) → (k : ℕ) → k ≡ packed (a at p)
+    pub opens-writing : {second : Bool} (b q : ℕ) → Called rule s T second (a at p) (b at q) → Unsettled (held (length s) T (b at q)) → (k : ℕ) → k ≡ packed (a at p)
         → Writing rule s v x O U out₀ (set T (cell (length s) (b at q)) openMark) (set W (cell (length s) (b at q)) k) out b q count
     opens-writing b q called new k e =
         let n = length s in
-        let i = open-within rule s v closed few short (g .going) room b q called new in
+        let i = open-within rule s v closed few short (g .going .within) (g .going .through) room b q called new in
         let c = remaining-opened T (set T (cell n (b at q)) openMark) (cells v n) (cell n (b at q)) (cell-below v n (b at q) i)
-        (open-put rule s v closed few short (g .going) room b q called new) (open-blank rule s v closed few short (g .going) room b q called new) in
+        (open-put rule s v closed few short (g .going .within) (g .going .through) room b q called new) (open-blank rule s v closed few short (g .going .within) (g .going .through) room b q called new) in
         let l = g .left in
         record {
-          going = record {
-            stack = cell n (a at p) ∷ g .going .stack;
-            within = i;
-            through = open-through rule s v closed few short (g .going) room b q called new k work-room e;
-          };
+          going = open-goes rule s v closed few short (g .going) room work-room b q called new k e;
           lines = g .lines;
           counted = g .counted;
           laid = g .laid;

@@ -4,8 +4,13 @@ pub mod Looking
 pub mod Marks
 pub mod Bridge
 pub mod KeptTable
+pub mod Entry
+pub mod Through
 pub mod Going
 pub mod Ended
+pub mod Calls
+pub mod Standing
+pub mod Stepping
 pub mod Decided
 pub mod Closing
 pub mod Finished

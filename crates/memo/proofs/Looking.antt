@@ -1,4 +1,5 @@
 -- What the tests of a cell say, and what the second pair's cell says of the pair that calls it. Assumes nothing.
+use mathlib.Core.Bool.{Bool, true}
 use mathlib.Core.Path.{_≡_, sym, ap, _∙_, subst}
 use mathlib.Core.Logic.{inl, inr, _≢_}
 use mathlib.Core.List.{List}
@@ -12,9 +13,10 @@ use Rattle.schema.specs.Table.{Within, cell, held}
 use Rattle.schema.proofs.Cell.{cell-below}
 use Rattle.schema.proofs.Closed.{calls-call}
 use Rattle.schema.proofs.Ends.{derives-ends}
-use Rattle.memo.specs.Walk.{openMark, Unsettled, Settled, Fits, Called, second-called, by-calls, Saw, SawSecond, Walkable, LookReady}
-use Rattle.memo.specs.declared.Look.{Look}
-use Rattle.memo.specs.declared.Look.the-variants as look
+use Rattle.memo.specs.Look.{Saw, SawSecond, LookReady}
+use Rattle.memo.specs.Walk.{openMark, Unsettled, Settled, Fits, Called, second-called, by-calls, Walkable}
+use Rattle.memo.specs.declared.writer.Look.{Look}
+use Rattle.memo.specs.declared.writer.Look.the-variants as look
 
 -- The cell that was loaded.
 pub held-is : (n : ℕ) (T : List ℕ) (y : Pair) (c i : ℕ) → c ≡ getD T i 0 → i ≡ cell n y → held n T y ≡ c
@@ -33,9 +35,9 @@ module _ (rule : ℕ → Rule) (s T : List ℕ) (A p B C D : ℕ) (t : Result) (
     (first : Settled (length s) (held (length s) T (B at p)) t) where
   pub second-saw : (r : Look) → SawSecond (length s) T (second C D p t) r → Saw rule s T (A at p) r
   second-saw (look.Open X q) h =
-      subst (λ (y : Pair). Called rule s T (A at p) y × Unsettled (held (length s) T y)) (h .0) (second-called e first, h .1)
+      subst (λ (y : Pair). ((k : Bool) × Called rule s T k (A at p) y) × Unsettled (held (length s) T y)) (h .0) ((true, second-called e first), h .1)
   second-saw (look.Again X q) h =
-      subst (λ (y : Pair). Called rule s T (A at p) y × (held (length s) T y ≡ openMark)) (h .0) (second-called e first, h .1)
+      subst (λ (y : Pair). ((k : Bool) × Called rule s T k (A at p) y) × (held (length s) T y ≡ openMark)) (h .0) ((true, second-called e first), h .1)
   second-saw look.Missing h = absurd h
   second-saw look.End h = absurd h
   second-saw (look.Settle c) h = (h .0, h .1, by-calls e first (subst (λ (u : ℕ). Settled (length s) u (h .0)) (sym (h .2)) (h .1)))

@@ -1,4 +1,5 @@
 -- The visits of the writer: what is left of an open pair's visit while the walk goes on. Assumes nothing.
+use mathlib.Core.Bool.{Bool}
 use mathlib.Core.Path.{_≡_, refl, sym, ap, _∙_, subst}
 use mathlib.Core.List.{List, [], _∷_, _++_}
 use Prim.Native.Nat.{ℕ, _+_, _≤_}
@@ -14,7 +15,7 @@ use Rattle.schema.proofs.Cell.{pairOf, PairWithin}
 use Rattle.memo.specs.Walk.{Unsettled, Settled, Called, first-called, second-called, Given, by-leaf, by-calls}
 use Rattle.memo.specs.Writer.{Unwritten, Visits, passed, leaf, node}
 use Rattle.memo.specs.Writing.{Numbers, of-leaf, of-calls}
-use Rattle.memo.proofs.Going.{called-within}
+use Rattle.memo.proofs.Through.{called-within}
 use Rattle.memo.proofs.Lines.{stands-before, stands-last}
 
 -- A cell holds one result.
@@ -111,7 +112,7 @@ module _ (rule : ℕ → Rule) (s : List ℕ) (v : ℕ) (closed : Closed v rule)
 
   -- The visit of a pair that is opened brings its caller's visit on.
   pub called-visited : {T W : List ℕ} {before now after : List Line} {x y : Pair} → Written v (length s) T W now → PairWithin v (length s) x
-      → Progress rule s before x now → Called rule s T x y → Unsettled (held (length s) T y) → Visits rule s now y after → Progress rule s before x after
+      → Progress rule s before x now → {k : Bool} → Called rule s T k x y → Unsettled (held (length s) T y) → Visits rule s now y after → Progress rule s before x after
   called-visited w i g (first-called e) u x = first-onward w (progress-calls rule s g e) e u x
   called-visited {T = T} w i g (second-called e m) u x =
       second-onward w (progress-calls rule s g e) e (called-within rule s v closed few short {T = T} i (first-called e)) m u x

@@ -16,7 +16,7 @@ use Rattle.schema.proofs.Ends.{EndsWithin, derives-ends}
 use Rattle.schema.proofs.Laws.{has-one}
 use Rattle.memo.specs.Walk.{Ends}
 use Rattle.memo.specs.Writer.{Unwritten, Visits, passed, leaf, node}
-use Rattle.memo.proofs.Going.{second-within}
+use Rattle.memo.proofs.Through.{second-within}
 use Rattle.memo.proofs.Lines.{stands-none, stands-last, stands-cases}
 use Rattle.memo.proofs.Visiting.{visit-keeps}
 

@@ -1,18 +1,16 @@
--- What the steps of the walk do: looking at a pair, walking to an answer, closing what is open. Assumes nothing.
-use mathlib.Core.Bool.{cond}
+-- What the walk does: what its table and its work slice hold, how it ends, and closing what it left open. Assumes nothing.
+use mathlib.Core.Bool.{Bool, true, false, cond}
 use mathlib.Core.List.{List, [], _∷_, List·Memᴰ}
 use mathlib.Core.Logic.{_⊎_, _≢_}
 use mathlib.Core.Path.{_≡_}
-use Prim.Native.Nat.{ℕ, _+_, _-_, _*_, _≤_, _<_}
+use Prim.Native.Nat.{ℕ, suc, _+_, _-_, _*_, _≤_, _<_}
 use lib.Dec.{eqb}
 use lib.ListN.{length, getD, set, drop}
 use Rattle.grammar.specs.Rule.{Rule}
-use Rattle.schema.specs.Derivation.{Pair, _at_, Result, success, failure, missing, end, gives, stops, calls, act, second, Outcome, result, stopped, loop, Has}
-use Rattle.schema.specs.Closed.{Variable, Closed}
+use Rattle.schema.specs.Derivation.{Pair, _at_, Result, success, failure, missing, end, gives, calls, act, second, Outcome, result, stopped, loop, Has}
+use Rattle.schema.specs.Closed.{Closed}
 use Rattle.schema.specs.Reached.{Reached, Named}
 use Rattle.schema.specs.Table.{Within, cell, cells, code, held}
-use Rattle.memo.specs.declared.Look.{Look}
-use Rattle.memo.specs.declared.Look.the-variants as look
 use Rattle.memo.specs.declared.Walk.{Walk}
 use Rattle.memo.specs.declared.Walk.the-variants as walk
 
@@ -39,13 +37,11 @@ pub record Settled (n c : ℕ) (r : Result) : Type 0 where
 abbrev pub Fits : ℕ → ℕ → Type 0
 Fits n c = (c ≤ 5 + n) ⊎ (c ≡ openMark)
 
--- ---- Looking at a pair.
-
--- x calls y, as far as the table T tells.
-pub data Called (rule : ℕ → Rule) (s T : List ℕ) : Pair → Pair → Type 0 where
-  first-called : {A B C D p : ℕ} → act rule s (A at p) ≡ calls B C D → Called rule s T (A at p) (B at p)
+-- x calls y, as far as the table T tells: first, or second.
+pub data Called (rule : ℕ → Rule) (s T : List ℕ) : Bool → Pair → Pair → Type 0 where
+  first-called : {A B C D p : ℕ} → act rule s (A at p) ≡ calls B C D → Called rule s T false (A at p) (B at p)
   second-called : {A B C D p : ℕ} {t : Result} → act rule s (A at p) ≡ calls B C D → Settled (length s) (held (length s) T (B at p)) t
-      → Called rule s T (A at p) (second C D p t)
+      → Called rule s T true (A at p) (second C D p t)
 
 -- x has the result r, as far as the table T tells.
 pub data Given (rule : ℕ → Rule) (s T : List ℕ) : Pair → Result → Type 0 where
@@ -53,23 +49,7 @@ pub data Given (rule : ℕ → Rule) (s T : List ℕ) : Pair → Result → Type
   by-calls : {A B C D p : ℕ} {t r : Result} → act rule s (A at p) ≡ calls B C D → Settled (length s) (held (length s) T (B at p)) t
       → Settled (length s) (held (length s) T (second C D p t)) r → Given rule s T (A at p) r
 
--- What looking at x finds.
-abbrev pub Saw : (ℕ → Rule) → List ℕ → List ℕ → Pair → Look → Type 0
-Saw rule s T x (look.Open B q) = Called rule s T x (B at q) × Unsettled (held (length s) T (B at q))
-Saw rule s T x (look.Again B q) = Called rule s T x (B at q) × (held (length s) T (B at q) ≡ openMark)
-Saw rule s T x look.Missing = act rule s x ≡ stops missing
-Saw rule s T x look.End = act rule s x ≡ stops end
-Saw rule s T x (look.Settle c) = (r : Result) × Settled (length s) (c .0) r × Given rule s T x r
-
--- The same for the second pair that x calls, once the first has its result: y is that pair.
-abbrev pub SawSecond : ℕ → List ℕ → Pair → Look → Type 0
-SawSecond n T y (look.Open B q) = (y ≡ B at q) × Unsettled (held n T y)
-SawSecond n T y (look.Again B q) = (y ≡ B at q) × (held n T y ≡ openMark)
-SawSecond n T y look.Missing = ⊥
-SawSecond n T y look.End = ⊥
-SawSecond n T y (look.Settle c) = (r : Result) × Settled n (c .0) r × (held n T y ≡ c .0)
-
--- What is asked of the rules, the input and the table, for a pair that is looked at.
+-- What is asked of the rules, the input and the table.
 pub record Walkable (rule : ℕ → Rule) (s : List ℕ) (v : ℕ) (T : List ℕ) : Type 0 where
   pub few : v ≤ 256
   pub short : length s ≤ 4096
@@ -77,26 +57,22 @@ pub record Walkable (rule : ℕ → Rule) (s : List ℕ) (v : ℕ) (T : List ℕ
   pub room : cells v (length s) ≤ length T
   pub fits : (i : ℕ) → i < cells v (length s) → Fits (length s) (getD T i 0)
 
--- The same for a pair at a position p that calls b, c and d.
-pub record LookReady (rule : ℕ → Rule) (s T : List ℕ) (p b c d : ℕ) : Type 0 where
-  pub variables : ℕ
-  pub walkable : Walkable rule s variables T
-  pub position-in : p ≤ length s
-  pub b-in : Variable variables b
-  pub c-in : Variable variables c
-  pub d-in : Variable variables d
-
 -- ---- Walking from an open pair.
 
--- The work slice holds, for an open pair, the pair that called it.
+-- A pair as one number.
 abbrev pub packed : Pair → ℕ
 packed (A at p) = 8192 * A + p
 
--- The open pairs from the latest to the asked one, root: each was called by the next.
-pub data Trail (n : ℕ) (W : List ℕ) (root : Pair) : List Pair → Type 0 where
-  nothing-open : Trail n W root []
-  only-asked : Trail n W root (root ∷ [])
-  called-by : {x y : Pair} {ps : List Pair} → ¬ List·Memᴰ y (x ∷ ps) → getD W (cell n y) 0 ≡ packed x → Trail n W root (x ∷ ps) → Trail n W root (y ∷ x ∷ ps)
+-- A caller in the work slice: the pair, and whether what it called is its second call.
+abbrev pub entry : Bool → Pair → ℕ
+entry k x = 2 * packed x + cond k 1 0
+
+-- The open pairs from the latest to the asked one, root: each was called by the next, which the work slice holds, d of them in all, the latest last.
+pub data Trail (W : List ℕ) (root : Pair) : ℕ → List Pair → Type 0 where
+  nothing-open : Trail W root 0 []
+  only-asked : Trail W root 0 (root ∷ [])
+  called-by : {d : ℕ} {x y : Pair} {ps : List Pair} (k : Bool) → ¬ List·Memᴰ y (x ∷ ps) → getD W d 0 ≡ entry k x → Trail W root d (x ∷ ps)
+      → Trail W root (suc d) (y ∷ x ∷ ps)
 
 -- A table to begin with (document 01 blanks it; a kept one serves too): no pair is open, what it holds of results is right, and what a pair with
 -- a result calls has its result in it too.
@@ -125,67 +101,80 @@ resultOf c = cond (eqb c 1) failure (success (c - 5))
 -- What each case of the walk's answer says: the outcome.
 abbrev pub outcomeOf : Walk → Outcome
 outcomeOf (walk.Settled c) = result (resultOf (c .0))
-outcomeOf (walk.Loop A p B q) = loop
-outcomeOf (walk.Missing A p) = stopped missing
-outcomeOf (walk.End A p) = stopped end
+outcomeOf (walk.Loop A p B q d) = loop
+outcomeOf (walk.Missing A p d) = stopped missing
+outcomeOf (walk.End A p d) = stopped end
 
 -- The named pair.
 abbrev pub namedOf : Walk → Pair
 namedOf (walk.Settled c) = 0 at 0
-namedOf (walk.Loop A p B q) = A at p
-namedOf (walk.Missing A p) = A at p
-namedOf (walk.End A p) = A at p
+namedOf (walk.Loop A p B q d) = A at p
+namedOf (walk.Missing A p d) = A at p
+namedOf (walk.End A p d) = A at p
+
+-- How many callers the work slice holds.
+abbrev pub depthOf : Walk → ℕ
+depthOf (walk.Settled c) = 0
+depthOf (walk.Loop A p B q d) = d
+depthOf (walk.Missing A p d) = d
+depthOf (walk.End A p d) = d
 
 -- The open pair where the walk stopped, the last one opened first.
 abbrev pub StopsAt : Walk → List Pair → Type 0
 StopsAt (walk.Settled c) opens = opens ≡ []
-StopsAt (walk.Loop A p B q) opens = (ps : List Pair) × (opens ≡ (B at q) ∷ ps)
-StopsAt (walk.Missing A p) opens = (ps : List Pair) × (opens ≡ (A at p) ∷ ps)
-StopsAt (walk.End A p) opens = (ps : List Pair) × (opens ≡ (A at p) ∷ ps)
+StopsAt (walk.Loop A p B q d) opens = (ps : List Pair) × (opens ≡ (B at q) ∷ ps)
+StopsAt (walk.Missing A p d) opens = (ps : List Pair) × (opens ≡ (A at p) ∷ ps)
+StopsAt (walk.End A p d) opens = (ps : List Pair) × (opens ≡ (A at p) ∷ ps)
 
 -- The cell of a result holds a code.
 abbrev pub SettledCode : ℕ → Walk → Type 0
 SettledCode n (walk.Settled c) = (r : Result) × Settled n (c .0) r
-SettledCode n (walk.Loop A p B q) = Unit {0}
-SettledCode n (walk.Missing A p) = Unit {0}
-SettledCode n (walk.End A p) = Unit {0}
+SettledCode n (walk.Loop A p B q d) = Unit {0}
+SettledCode n (walk.Missing A p d) = Unit {0}
+SettledCode n (walk.End A p d) = Unit {0}
 
 -- What a cell of a reached pair holds where the walk ends with the outcome o: its result, or it is open and its outcome is o.
 abbrev pub HeldAt : (ℕ → Rule) → List ℕ → List ℕ → Outcome → Pair → Type 0
 HeldAt rule s T o y = ((r : Result) × Has rule s y (result r) × Settled (length s) (held (length s) T y) r) ⊎ (Has rule s y o × (held (length s) T y ≡ openMark))
 
--- Where the walk for x ends: T and W are the table and the work slice, O and U what they were before x was opened.
-pub record WalkEnds (rule : ℕ → Rule) (s : List ℕ) (v : ℕ) (x : Pair) (O T U W : List ℕ) (r : Walk) : Type 0 where
-  pub has : Has rule s x (outcomeOf r)
-  pub names : Named rule s x (outcomeOf r) (namedOf r)
-  pub reached : (y : Pair) → Reached rule s x y → HeldAt rule s T (outcomeOf r) y
+-- The table T where a question about x ends with the outcome o and the named pair, and the pairs `opens` are left open: O is the table before x was
+-- opened.
+pub record TableEnds (rule : ℕ → Rule) (s : List ℕ) (v : ℕ) (x : Pair) (O T : List ℕ) (o : Outcome) (named : Pair) (opens : List Pair) : Type 0 where
+  pub has : Has rule s x o
+  pub names : Named rule s x o named
+  pub reached : (y : Pair) → Reached rule s x y → HeldAt rule s T o y
   pub others : (A p : ℕ) → Within v (length s) A p → held (length s) T (A at p) ≢ held (length s) O (A at p) → Reached rule s x (A at p)
-  pub opens : List Pair
-  pub trail : Trail (length s) W x opens
-  pub stops-at : StopsAt r opens
   pub on-trail : (A p : ℕ) → Within v (length s) A p → held (length s) T (A at p) ≡ openMark → List·Memᴰ (A at p) opens
   pub trail-open : (A p : ℕ) → List·Memᴰ (A at p) opens → Within v (length s) A p × (held (length s) T (A at p) ≡ openMark)
-  pub settled-code : SettledCode (length s) r
   pub later : drop (cells v (length s)) T ≡ drop (cells v (length s)) O
   pub size : length T ≡ length O
+
+-- Where the walk for x ends: T and W are the table and the work slice, O and U what they were before x was opened.
+pub record WalkEnds (rule : ℕ → Rule) (s : List ℕ) (v : ℕ) (x : Pair) (O T U W : List ℕ) (r : Walk) : Type 0 where
+  pub opens : List Pair
+  pub table : TableEnds rule s v x O T (outcomeOf r) (namedOf r) opens
+  pub stops-at : StopsAt r opens
+  pub settled-code : SettledCode (length s) r
+  pub trail : Trail W x (depthOf r) opens
+  pub deep : depthOf r ≤ cells v (length s)
   pub work-later : drop (cells v (length s)) W ≡ drop (cells v (length s)) U
   pub work-size : length W ≡ length U
 
 -- ---- Closing what is open.
 
--- c is stored in the open cells, from that of B at q to that of the asked pair A at p.
-pub record CloseReady (n v A p B q c : ℕ) (T W : List ℕ) : Type 0 where
+-- c is stored in the open cells, from that of B at q to that of the asked pair A at p, by the d callers in the work slice.
+pub record CloseReady (n v A p B q d c : ℕ) (T W : List ℕ) : Type 0 where
   pub few : v ≤ 256
   pub short : n ≤ 4096
   pub not-open : c ≢ openMark
   pub room : cells v n ≤ length T
   pub work-room : cells v n ≤ length W
-  pub root-within : Within v n A p
+  pub deep : d ≤ cells v n
   pub rest : List Pair
-  pub trail : Trail n W (A at p) ((B at q) ∷ rest)
-  pub within-all : (C D : ℕ) → List·Memᴰ (C at D) ((B at q) ∷ rest) → Within v n C D
-  pub open-all : (C D : ℕ) → List·Memᴰ (C at D) ((B at q) ∷ rest) → held n T (C at D) ≡ openMark
-  pub on-trail : (C D : ℕ) → Within v n C D → held n T (C at D) ≡ openMark → List·Memᴰ (C at D) ((B at q) ∷ rest)
+  pub trail : Trail W (A at p) d ((B at q) ∷ rest)
+  pub within-all : (C e : ℕ) → List·Memᴰ (C at e) ((B at q) ∷ rest) → Within v n C e
+  pub open-all : (C e : ℕ) → List·Memᴰ (C at e) ((B at q) ∷ rest) → held n T (C at e) ≡ openMark
+  pub on-trail : (C e : ℕ) → Within v n C e → held n T (C at e) ≡ openMark → List·Memᴰ (C at e) ((B at q) ∷ rest)
 
 -- Every open cell of the first N holds c, and no other cell changes.
 pub record Closes (N c : ℕ) (T T′ : List ℕ) : Type 0 where

@@ -1,18 +1,20 @@
 // The table engine: questions and verdicts over a lent memo table.
 ghost use mathlib.Core.Path.{_≡_};
 ghost use mathlib.Core.List.{_++_};
-ghost use Prim.Native.Nat.{ℕ, _+_, _*_, _≤_, _<_};
+ghost use Prim.Native.Nat.{ℕ, _+_, _*_, _/_, _%_, _≤_, _<_};
 ghost use lib.ListN.{length, take, drop, replicate, getD, set};
+ghost use Rattle.grammar.specs.Rule.{call};
 ghost use Rattle.grammar.specs.Words.{ruleIn};
-ghost use Rattle.schema.specs.Derivation.{_at_, calls, act, result};
-ghost use Rattle.schema.specs.Table.{Within, cell, cells, held, decided};
-ghost use Rattle.memo.specs.Walk.{openMark, Fits, Saw, SawSecond, LookReady, Walkable, packed, WalkReady, WalkEnds, before, resultOf, CloseReady, Closes};
+ghost use Rattle.schema.specs.Derivation.{_at_, calls, act, second, result};
+ghost use Rattle.schema.specs.Table.{Within, cell, cells, decided};
+ghost use Rattle.memo.specs.Walk.{openMark, Walkable, packed, entry, WalkReady, WalkEnds, before, resultOf, CloseReady, Closes};
+ghost use Rattle.memo.specs.Step.{topOf, calledOf, Acts, Finds, StepReady, GoesBack, Steps};
 ghost use Rattle.memo.specs.Answer.{told, reply, Code, AskReady, Says, QuestionPromise};
 ghost use Rattle.memo.specs.Finish.{FinishReady, Finishes};
 ghost use Rattle.memo.specs.Verdict.{numbers, judged, VerdictPromise};
 ghost use Rattle.schema.specs.Verdict.{closedBy};
 ghost use Rattle.grammar.specs.Refusal.{accepted};
-ghost use mathlib.Core.Bool.{_||_};
+ghost use mathlib.Core.Bool.{true, _||_};
 ghost use lib.Dec.{ltb, eqb};
 use grammar::sheet::Rules;
 use grammar::sheet::Sheet;
@@ -20,6 +22,7 @@ use grammar::sheet::read_sheet;
 use schema::Act;
 use schema::act_at;
 use schema::admit;
+use schema::second_of;
 
 pub mod writer;
 
@@ -73,22 +76,40 @@ impl Cell {
     }
 }
 
-// What looking at a pair finds: a pair that it calls and that is to be opened, one that is open already, no rule, the end of the input, or
-// the cell of its result.
-enum Look {
-    Open(u32, u32),
-    Again(u32, u32),
+// What looking a called pair up finds: the cell of its result; or it is to be opened, with the variable that it calls first; it is open
+// already; it has no rule; or it has no byte.
+enum Found {
+    Settled(Cell),
+    Open(u32),
+    Again,
     Missing,
     End,
-    Settle(Cell),
 }
 
-// What a walk ends with: the cell of a result; a pair met a second time, and the one that called it; or the pair that has no rule or no byte.
+// Where the walk stands: the latest open pair, the pair that it calls, whether that is its second call, and how many callers the work slice
+// holds.
+struct State {
+    variable: u32,
+    position: u32,
+    called: u32,
+    place: u32,
+    second: bool,
+    depth: usize,
+}
+
+// What a walk ends with: the cell of a result; a pair met a second time, and the one that called it; or the pair that has no rule or no byte;
+// but for a result with the number of callers in the work slice.
 enum Walk {
     Settled(Cell),
-    Loop(u32, u32, u32, u32),
-    Missing(u32, u32),
-    End(u32, u32),
+    Loop(u32, u32, u32, u32, usize),
+    Missing(u32, u32, usize),
+    End(u32, u32, usize),
+}
+
+// What a step comes to.
+enum Step {
+    On(State),
+    Ended(Walk),
 }
 
 // The number of a pair's cell, on n bytes.
@@ -99,78 +120,224 @@ fn cell_number(n: usize, variable: u32, position: u32) -> usize
     (variable as usize - 1) * (n + 1) + position as usize
 }
 
-// Looks at the second pair that a pair calls.
-fn look_second(n: usize, table: &[u32], variable: u32, position: u32) -> Look
-    requires { ⌜ (1 ≤ variable) × (variable ≤ 256) × (n ≤ 4096) × (position ≤ n) × (cell n (variable at position) < length (now table)) × Fits n (held n (now table) (variable at position)) ⌝ }
-    ensures { λ r. ⌜ SawSecond n (now (table .entry)) (variable at position) r ⌝ }
-{
-    let found = Cell::load(table, cell_number(n, variable, position));
-    if found.0 == Cell::FAILURE.0 {
-        return Look::Settle(found);
-    }
-    if found.0 < Cell::SUCCESS.0 {
-        return Look::Open(variable, position);
-    }
-    if found.0 == Cell::OPEN.0 {
-        return Look::Again(variable, position);
-    }
-    Look::Settle(found)
-}
-
-// Looks at the pairs that a pair calls: b where it stands, then c where b ends or d where it stands.
-fn look_calls(
+// Settles a leaf in its cell; else tells what its rule does.
+fn settle_leaf(
     rules: &Rules,
     input: &[u8],
-    table: &[u32],
-    position: u32,
-    b: u32,
-    c: u32,
-    d: u32,
-) -> Look
-    requires { ⌜ LookReady (ruleIn (now rules)) (now input) (now table) position b c d ⌝ }
-    ensures { λ r. ⌜ ((A : ℕ) → act (ruleIn (now (rules .entry))) (now (input .entry)) (A at position) ≡ calls b c d → Saw (ruleIn (now (rules .entry))) (now (input .entry)) (now (table .entry)) (A at position) r) ⌝ }
-{
-    let n = input.len();
-    let first = Cell::load(table, cell_number(n, b, position));
-    if first.0 == Cell::FAILURE.0 {
-        return look_second(n, table, d, position);
-    }
-    if first.0 < Cell::SUCCESS.0 {
-        return Look::Open(b, position);
-    }
-    if first.0 == Cell::OPEN.0 {
-        return Look::Again(b, position);
-    }
-    look_second(n, table, c, first.0 - Cell::SUCCESS.0)
-}
-
-// Looks at a pair: what its rule does, and the cells of the pairs that it calls.
-fn look_at(
-    rules: &Rules,
-    input: &[u8],
-    table: &[u32],
+    table: &mut [u32],
     variable: u32,
     position: u32,
     variables: u32,
-) -> Look
+) -> Found
     requires { ⌜ Walkable (ruleIn (now rules)) (now input) variables (now table) × Within variables (length (now input)) variable position ⌝ }
-    ensures { λ r. ⌜ Saw (ruleIn (now (rules .entry))) (now (input .entry)) (now (table .entry)) (variable at position) r ⌝ }
+    ensures { λ r. ⌜ Acts (ruleIn (now (rules .entry))) (now (input .entry)) (now (table .entry)) (now (table .exit)) (variable at position) r ⌝ }
 {
     match act_at(rules, input, variable, position) {
-        Act::Success(end) => Look::Settle(Cell::success(end)),
-        Act::Failure => Look::Settle(Cell::FAILURE),
-        Act::Missing => Look::Missing,
-        Act::End => Look::End,
-        Act::Calls(b, c, d) => look_calls(rules, input, table, position, b, c, d),
+        Act::Success(end) => {
+            let cell = Cell::success(end);
+            cell.store(table, cell_number(input.len(), variable, position));
+            Found::Settled(cell)
+        }
+        Act::Failure => {
+            let cell = Cell::FAILURE;
+            cell.store(table, cell_number(input.len(), variable, position));
+            Found::Settled(cell)
+        }
+        Act::Missing => Found::Missing,
+        Act::End => Found::End,
+        Act::Calls(b, _, _) => Found::Open(b),
     }
 }
 
-// The number that the work slice holds for a caller.
+// Looks a pair up in the table; a leaf that is not settled yet is settled at once.
+fn look_up(
+    rules: &Rules,
+    input: &[u8],
+    table: &mut [u32],
+    variable: u32,
+    position: u32,
+    variables: u32,
+) -> Found
+    requires { ⌜ Walkable (ruleIn (now rules)) (now input) variables (now table) × Within variables (length (now input)) variable position ⌝ }
+    ensures { λ r. ⌜ Finds (ruleIn (now (rules .entry))) (now (input .entry)) (now (table .entry)) (now (table .exit)) (variable at position) r ⌝ }
+{
+    let found = Cell::load(table, cell_number(input.len(), variable, position));
+    if found.0 == Cell::FAILURE.0 {
+        return Found::Settled(found);
+    }
+    if found.0 < Cell::SUCCESS.0 {
+        return settle_leaf(rules, input, table, variable, position, variables);
+    }
+    if found.0 == Cell::OPEN.0 {
+        return Found::Again;
+    }
+    Found::Settled(found)
+}
+
+// A pair as one number.
 fn pack(variable: u32, position: u32) -> u32
     requires { ⌜ (variable ≤ 256) × (position ≤ 4096) ⌝ }
     ensures { λ r. ⌜ r ≡ packed (variable at position) ⌝ }
 {
     8192 * variable + position
+}
+
+// The number that the work slice holds for a caller, and for whether what it called is its second call.
+fn entry_of(x: State) -> u32
+    requires { ⌜ (x .variable ≤ 256) × (x .position ≤ 4096) ⌝ }
+    ensures { λ r. ⌜ r ≡ entry (x .second) (topOf x) ⌝ }
+{
+    let pair = 2 * pack(x.variable, x.position);
+    if x.second {
+        return pair + 1;
+    }
+    pair
+}
+
+// The state at the caller that an entry of the work slice holds, once the top of x is settled.
+fn caller_of(x: State, entry: u32, depth: usize) -> State
+    ensures { λ r. ⌜ (r .variable ≡ entry / 16384) × (r .position ≡ entry / 2 % 8192) × (r .second ≡ eqb (entry % 2) 1) × (calledOf r ≡ topOf x) × (r .depth ≡ depth) ⌝ }
+{
+    State {
+        variable: entry / 16384,
+        position: entry / 2 % 8192,
+        called: x.variable,
+        place: x.position,
+        second: entry % 2 == 1,
+        depth,
+    }
+}
+
+// The state at the second call of the top of x, whose first call has a result: c where it ends, or d where the pair stands.
+fn to_second(rules: &Rules, x: State, first: Cell) -> State
+    requires { ⌜ (1 ≤ x .variable) × (x .variable ≤ 256) × Code (first .0) ⌝ }
+    ensures { λ r. ⌜ ((B C D : ℕ) → ruleIn (now (rules .entry)) (x .variable) ≡ call B C D → calledOf r ≡ second C D (x .position) (resultOf (first .0))) × (topOf r ≡ topOf x) × (r .second ≡ true) × (r .depth ≡ x .depth) ⌝ }
+{
+    if first.0 == Cell::FAILURE.0 {
+        let d = second_of(rules, x.variable, false);
+        return State {
+            variable: x.variable,
+            position: x.position,
+            called: d,
+            place: x.position,
+            second: true,
+            depth: x.depth,
+        };
+    }
+    let c = second_of(rules, x.variable, true);
+    State {
+        variable: x.variable,
+        position: x.position,
+        called: c,
+        place: first.0 - Cell::SUCCESS.0,
+        second: true,
+        depth: x.depth,
+    }
+}
+
+// Opens the called pair, and notes its caller.
+fn open_called(n: usize, table: &mut [u32], work: &mut [u32], x: State)
+    requires { ⌜ (1 ≤ x .called) × (x .called ≤ 256) × (n ≤ 4096) × (x .place ≤ n) × (cell n (calledOf x) < length (now table)) × (x .variable ≤ 256) × (x .position ≤ 4096) × (x .depth < length (now work)) ⌝ }
+    ensures opens { λ _. ⌜ now (table .exit) ≡ set (now (table .entry)) (cell n (calledOf x)) openMark ⌝ }
+    ensures notes { λ _. ⌜ now (work .exit) ≡ set (now (work .entry)) (x .depth) (entry (x .second) (topOf x)) ⌝ }
+{
+    Cell::OPEN.store(table, cell_number(n, x.called, x.place));
+    let depth = x.depth;
+    work[depth] = entry_of(x);
+}
+
+// Settles the latest open pair, and goes back to its caller.
+fn settle_top(n: usize, table: &mut [u32], work: &[u32], x: State, cell: Cell) -> Step
+    requires { ⌜ (1 ≤ x .variable) × (x .variable ≤ 256) × (n ≤ 4096) × (x .position ≤ n) × (Rattle.schema.specs.Table.cell n (topOf x) < length (now table)) × (x .depth ≤ length (now work)) ⌝ }
+    ensures stores { λ _. ⌜ now (table .exit) ≡ set (now (table .entry)) (Rattle.schema.specs.Table.cell n (topOf x)) (cell .0) ⌝ }
+    ensures returns { λ r. ⌜ GoesBack (now (work .entry)) x cell r ⌝ }
+{
+    cell.store(table, cell_number(n, x.variable, x.position));
+    if x.depth == 0 {
+        return Step::Ended(Walk::Settled(cell));
+    }
+    let depth = x.depth - 1;
+    Step::On(caller_of(x, work[depth], depth))
+}
+
+// One step of the walk.
+fn advance(
+    rules: &Rules,
+    input: &[u8],
+    variables: u32,
+    table: &mut [u32],
+    work: &mut [u32],
+    x: State,
+) -> Step
+    requires { ⌜ StepReady (ruleIn (now rules)) (now input) variables (now table) (now work) x ⌝ }
+    ensures { λ r. ⌜ Steps (ruleIn (now (rules .entry))) (now (input .entry)) (now (table .entry)) (now (work .entry)) (now (table .exit)) (now (work .exit)) x r ⌝ }
+{
+    let n = input.len();
+    match look_up(rules, input, table, x.called, x.place, variables) {
+        Found::Settled(cell) => {
+            if x.second {
+                return settle_top(n, table, work, x, cell);
+            }
+            Step::On(to_second(rules, x, cell))
+        }
+        Found::Open(b) => {
+            open_called(n, table, work, x);
+            Step::On(State {
+                variable: x.called,
+                position: x.place,
+                called: b,
+                place: x.place,
+                second: false,
+                depth: x.depth + 1,
+            })
+        }
+        Found::Again => {
+            let end = Walk::Loop(x.called, x.place, x.variable, x.position, x.depth);
+            Step::Ended(end)
+        }
+        Found::Missing => {
+            open_called(n, table, work, x);
+            Step::Ended(Walk::Missing(x.called, x.place, x.depth + 1))
+        }
+        Found::End => {
+            open_called(n, table, work, x);
+            Step::Ended(Walk::End(x.called, x.place, x.depth + 1))
+        }
+    }
+}
+
+// Walks on from the first call of an open pair, the only one, that calls b first.
+fn walk_on(
+    rules: &Rules,
+    input: &[u8],
+    variable: u32,
+    position: u32,
+    b: u32,
+    variables: u32,
+    table: &mut [u32],
+    work: &mut [u32],
+) -> Walk
+    requires { ⌜ WalkReady (ruleIn (now rules)) (now input) variables variable position (now table) (now work) × ((C : ℕ) × (D : ℕ) × (act (ruleIn (now rules)) (now input) (variable at position) ≡ calls b C D)) ⌝ }
+    ensures { λ r. ⌜ WalkEnds (ruleIn (now (rules .entry))) (now (input .entry)) variables (variable at position) (before (length (now (input .entry))) (variable at position) (now (table .entry))) (now (table .exit)) (now (work .entry)) (now (work .exit)) r ⌝ }
+{
+    let mut x = State {
+        variable,
+        position,
+        called: b,
+        place: position,
+        second: false,
+        depth: 0,
+    };
+    loop {
+        match advance(rules, input, variables, table, work, x) {
+            Step::On(next) => {
+                x = next;
+            }
+            Step::Ended(end) => {
+                return end;
+            }
+        }
+    }
 }
 
 // Walks from an open pair, the only one, until it is settled, or a pair is met a second time, or one has no rule or no byte.
@@ -186,33 +353,12 @@ fn walk_from(
     requires { ⌜ WalkReady (ruleIn (now rules)) (now input) variables variable position (now table) (now work) ⌝ }
     ensures { λ r. ⌜ WalkEnds (ruleIn (now (rules .entry))) (now (input .entry)) variables (variable at position) (before (length (now (input .entry))) (variable at position) (now (table .entry))) (now (table .exit)) (now (work .entry)) (now (work .exit)) r ⌝ }
 {
-    let n = input.len();
-    let root = cell_number(n, variable, position);
-    let mut a = variable;
-    let mut p = position;
-    loop {
-        match look_at(rules, input, table, a, p, variables) {
-            Look::Open(b, q) => {
-                let index = cell_number(n, b, q);
-                Cell::OPEN.store(table, index);
-                work[index] = pack(a, p);
-                a = b;
-                p = q;
-            }
-            Look::Again(b, q) => return Walk::Loop(b, q, a, p),
-            Look::Missing => return Walk::Missing(a, p),
-            Look::End => return Walk::End(a, p),
-            Look::Settle(cell) => {
-                let index = cell_number(n, a, p);
-                cell.store(table, index);
-                if index == root {
-                    return Walk::Settled(cell);
-                }
-                let caller = work[index];
-                a = caller / 8192;
-                p = caller % 8192;
-            }
-        }
+    match settle_leaf(rules, input, table, variable, position, variables) {
+        Found::Settled(cell) => Walk::Settled(cell),
+        Found::Open(b) => walk_on(rules, input, variable, position, b, variables, table, work),
+        Found::Again => Walk::Loop(variable, position, variable, position, 0),
+        Found::Missing => Walk::Missing(variable, position, 0),
+        Found::End => Walk::End(variable, position, 0),
     }
 }
 
@@ -248,29 +394,30 @@ fn count_decided(table: &[u32], size: usize) -> u32
 fn close(
     n: usize,
     variables: u32,
-    variable: u32,
-    position: u32,
+    asked: u32,
+    start: u32,
     b: u32,
     q: u32,
+    depth: usize,
     outcome: Cell,
     table: &mut [u32],
     work: &[u32],
 )
-    requires { ⌜ CloseReady n variables variable position b q (outcome .0) (now table) (now work) ⌝ }
+    requires { ⌜ CloseReady n variables asked start b q depth (outcome .0) (now table) (now work) ⌝ }
     ensures { λ _. ⌜ Closes (cells variables n) (outcome .0) (now (table .entry)) (now (table .exit)) ⌝ }
 {
-    let root = cell_number(n, variable, position);
     let mut a = b;
     let mut p = q;
+    let mut left = depth;
     loop {
-        let index = cell_number(n, a, p);
-        outcome.store(table, index);
-        if index == root {
+        outcome.store(table, cell_number(n, a, p));
+        if left == 0 {
             return;
         }
-        let caller = work[index];
-        a = caller / 8192;
-        p = caller % 8192;
+        left -= 1;
+        let caller = work[left];
+        a = caller / 16384;
+        p = caller / 2 % 8192;
     }
 }
 
@@ -304,15 +451,27 @@ fn close_all(
     position: u32,
     b: u32,
     q: u32,
+    depth: usize,
     outcome: Cell,
     table: &mut [u32],
     work: &[u32],
 ) -> u32
-    requires { ⌜ CloseReady n variables variable position b q (outcome .0) (now table) (now work) ⌝ }
+    requires { ⌜ CloseReady n variables variable position b q depth (outcome .0) (now table) (now work) ⌝ }
     ensures closes { λ r. ⌜ Closes (cells variables n) (outcome .0) (now (table .entry)) (now (table .exit)) ⌝ }
     ensures counts { λ r. ⌜ r ≡ decided (take (cells variables n) (now (table .exit))) ⌝ }
 {
-    close(n, variables, variable, position, b, q, outcome, table, work);
+    close(
+        n,
+        variables,
+        variable,
+        position,
+        b,
+        q,
+        depth,
+        outcome,
+        table,
+        work,
+    );
     count_decided(table, variables as usize * (n + 1))
 }
 
@@ -340,16 +499,49 @@ fn finish(
 {
     match end {
         Walk::Settled(cell) => settled(cell, count_decided(table, variables as usize * (n + 1))),
-        Walk::Loop(b, q, a, p) => {
-            let count = close_all(n, variables, asked, place, a, p, Cell::LOOP, table, work);
+        Walk::Loop(b, q, a, p, depth) => {
+            let count = close_all(
+                n,
+                variables,
+                asked,
+                place,
+                a,
+                p,
+                depth,
+                Cell::LOOP,
+                table,
+                work,
+            );
             Answer::Loop(b, q, count)
         }
-        Walk::Missing(a, p) => {
-            let count = close_all(n, variables, asked, place, a, p, Cell::MISSING, table, work);
+        Walk::Missing(a, p, depth) => {
+            let count = close_all(
+                n,
+                variables,
+                asked,
+                place,
+                a,
+                p,
+                depth,
+                Cell::MISSING,
+                table,
+                work,
+            );
             Answer::Missing(a, p, count)
         }
-        Walk::End(a, p) => {
-            let count = close_all(n, variables, asked, place, a, p, Cell::END, table, work);
+        Walk::End(a, p, depth) => {
+            let count = close_all(
+                n,
+                variables,
+                asked,
+                place,
+                a,
+                p,
+                depth,
+                Cell::END,
+                table,
+                work,
+            );
             Answer::End(a, p, count)
         }
     }

@@ -1,25 +1,24 @@
 // The writer: asks a question, and for success and failure writes its certificate (document 01: a reading).
 ghost use mathlib.Core.Path.{_≡_};
 ghost use mathlib.Core.List.{_++_};
-ghost use Prim.Native.Nat.{_+_, _*_, _≤_, _<_};
+ghost use Prim.Native.Nat.{ℕ, _+_, _*_, _≤_, _<_};
 ghost use lib.Dec.{ltb};
 ghost use lib.ListN.{length, take, drop};
 ghost use Rattle.columns.specs.Column.{column};
 ghost use Rattle.grammar.specs.Refusal.{Checked};
 ghost use Rattle.grammar.specs.Words.{ruleIn};
-ghost use Rattle.schema.specs.Derivation.{_at_, Result, second};
+ghost use Rattle.schema.specs.Derivation.{_at_, Result, calls, act, second};
 ghost use Rattle.schema.specs.Line.{line, lineOf, lineBytes};
-ghost use Rattle.schema.specs.Table.{cell, held, cells};
+ghost use Rattle.schema.specs.Table.{Within, cell, held, cells};
 ghost use Rattle.memo.specs.Answer.{told, Code};
-ghost use Rattle.memo.specs.Walk.{Settled, resultOf, before};
+ghost use Rattle.memo.specs.Walk.{Settled, Fits, Walkable, resultOf, before};
+ghost use Rattle.memo.specs.Look.{Saw, SawSecond, LookReady};
 ghost use Rattle.memo.specs.Writer.{SaysWriting, WriterPromise};
 ghost use Rattle.memo.specs.Writing.{CallsReady, Numbers, LineReady, Lays, WriteReady, WriteEnds, AskWriteReady, LinesReady, hasResult};
 use crate::Answer;
 use crate::Cell;
-use crate::Look;
 use crate::ask;
 use crate::cell_number;
-use crate::look_at;
 use crate::open_asked;
 use crate::pack;
 use crate::too_small;
@@ -30,6 +29,16 @@ use schema::Act;
 use schema::act_at;
 use schema::admit;
 
+// What looking at a pair finds: a pair that it calls and that is to be opened, one that is open already, no rule, the end of the input, or
+// the cell of its result.
+enum Look {
+    Open(u32, u32),
+    Again(u32, u32),
+    Missing,
+    End,
+    Settle(Cell),
+}
+
 // What the writer answers: the answer of the question, and the count of lines written.
 pub struct Written {
     pub answer: Answer,
@@ -38,6 +47,72 @@ pub struct Written {
 
 // The numbers of the lines of the two pairs that a pair calls, counted from 1; both 0 for a leaf.
 struct LineNumbers(u32, u32);
+
+// Looks at the second pair that a pair calls.
+fn look_second(n: usize, table: &[u32], variable: u32, position: u32) -> Look
+    requires { ⌜ (1 ≤ variable) × (variable ≤ 256) × (n ≤ 4096) × (position ≤ n) × (cell n (variable at position) < length (now table)) × Fits n (held n (now table) (variable at position)) ⌝ }
+    ensures { λ r. ⌜ SawSecond n (now (table .entry)) (variable at position) r ⌝ }
+{
+    let found = Cell::load(table, cell_number(n, variable, position));
+    if found.0 == Cell::FAILURE.0 {
+        return Look::Settle(found);
+    }
+    if found.0 < Cell::SUCCESS.0 {
+        return Look::Open(variable, position);
+    }
+    if found.0 == Cell::OPEN.0 {
+        return Look::Again(variable, position);
+    }
+    Look::Settle(found)
+}
+
+// Looks at the pairs that a pair calls: b where it stands, then c where b ends or d where it stands.
+fn look_calls(
+    rules: &Rules,
+    input: &[u8],
+    table: &[u32],
+    position: u32,
+    b: u32,
+    c: u32,
+    d: u32,
+) -> Look
+    requires { ⌜ LookReady (ruleIn (now rules)) (now input) (now table) position b c d ⌝ }
+    ensures { λ r. ⌜ ((A : ℕ) → act (ruleIn (now (rules .entry))) (now (input .entry)) (A at position) ≡ calls b c d → Saw (ruleIn (now (rules .entry))) (now (input .entry)) (now (table .entry)) (A at position) r) ⌝ }
+{
+    let n = input.len();
+    let first = Cell::load(table, cell_number(n, b, position));
+    if first.0 == Cell::FAILURE.0 {
+        return look_second(n, table, d, position);
+    }
+    if first.0 < Cell::SUCCESS.0 {
+        return Look::Open(b, position);
+    }
+    if first.0 == Cell::OPEN.0 {
+        return Look::Again(b, position);
+    }
+    look_second(n, table, c, first.0 - Cell::SUCCESS.0)
+}
+
+// Looks at a pair: what its rule does, and the cells of the pairs that it calls.
+fn look_at(
+    rules: &Rules,
+    input: &[u8],
+    table: &[u32],
+    variable: u32,
+    position: u32,
+    variables: u32,
+) -> Look
+    requires { ⌜ Walkable (ruleIn (now rules)) (now input) variables (now table) × Within variables (length (now input)) variable position ⌝ }
+    ensures { λ r. ⌜ Saw (ruleIn (now (rules .entry))) (now (input .entry)) (now (table .entry)) (variable at position) r ⌝ }
+{
+    match act_at(rules, input, variable, position) {
+        Act::Success(end) => Look::Settle(Cell::success(end)),
+        Act::Failure => Look::Settle(Cell::FAILURE),
+        Act::Missing => Look::Missing,
+        Act::End => Look::End,
+        Act::Calls(b, c, d) => look_calls(rules, input, table, position, b, c, d),
+    }
+}
 
 // Writes the number x in the 8 columns at a position of the output.
 fn field_at(out: &mut [u8], start: usize, x: u32)

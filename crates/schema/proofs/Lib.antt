@@ -10,6 +10,7 @@ pub mod Counted
 pub mod Walk
 pub mod Handed
 pub mod CallRefusals
+pub mod RuleWords
 pub mod Admission
 pub mod Admitted
 pub mod SheetClosed

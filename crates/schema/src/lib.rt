@@ -5,10 +5,11 @@ use grammar::sheet::Sheet;
 use grammar::sheet::read_sheet;
 ghost use mathlib.Core.Bool.{cond};
 ghost use mathlib.Core.Path.{_≡_};
-ghost use Prim.Native.Nat.{_≤_};
+ghost use Prim.Native.Nat.{ℕ, _≤_};
 ghost use lib.Dec.{eqb};
 ghost use lib.ListN.{length, getD};
 ghost use Rattle.grammar.specs.Class.{classOf};
+ghost use Rattle.grammar.specs.Rule.{call};
 ghost use Rattle.grammar.specs.Words.{ruleIn};
 ghost use Rattle.schema.specs.Derivation.{act, oneByte, _at_};
 ghost use Rattle.schema.specs.Act.{told};
@@ -71,6 +72,18 @@ pub fn act_at(rules: &Rules, input: &[u8], variable: u32, position: u32) -> Act
         return Act::Failure;
     }
     Act::Missing
+}
+
+// The variable that a kind 4 rule calls second: C on success, D on failure.
+pub fn second_of(rules: &Rules, variable: u32, flag: bool) -> u32
+    requires { ⌜ (1 ≤ variable) × (variable ≤ 256) ⌝ }
+    ensures { λ r. ⌜ ((B C D : ℕ) → ruleIn (now (rules .entry)) variable ≡ call B C D → r ≡ cond flag C D) ⌝ }
+{
+    let word = rules[variable as usize - 1];
+    if flag {
+        return word / 256 % 256 + 1;
+    }
+    word % 256 + 1
 }
 
 // The grammar of a sheet, its rules in the lent array, for a question about an input, a variable and a position; or the first of refusals

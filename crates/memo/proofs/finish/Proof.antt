@@ -88,7 +88,7 @@ returns-2 : tie.Need-returns-2
 returns-2 c =
     let a = c .before .before .before .before .before .before .before .before .before .args in
     let h = c .before .before .close-all .ensures in
-    finishes (a .n) (a .variables) _ _ _ (walk.Loop (c .before .before .before .before .before .end2 .given .0 .0) (c .before .before .before .before .before .end2 .given .0 .1 .0) (c .before .before .before .before .before .end2 .given .0 .1 .1 .0) (c .before .before .before .before .before .end2 .given .0 .1 .1 .1 .0)) (c .before .before .before .before .before .end2 .given .1) (h .0) refl (h .1)
+    finishes (a .n) (a .variables) _ _ _ (walk.Loop (c .before .before .before .before .before .end2 .given .0 .0) (c .before .before .before .before .before .end2 .given .0 .1 .0) (c .before .before .before .before .before .end2 .given .0 .1 .1 .0) (c .before .before .before .before .before .end2 .given .0 .1 .1 .1 .0) (c .before .before .before .before .before .end2 .given .0 .1 .1 .1 .1 .0)) (c .before .before .before .before .before .end2 .given .1) (h .0) refl (h .1)
 
 same-length-3 : tie.Need-same-length-3
 same-length-3 c = search needs
@@ -97,7 +97,7 @@ returns-3 : tie.Need-returns-3
 returns-3 c =
     let a = c .before .before .before .before .before .before .before .before .before .args in
     let h = c .before .before .close-all2 .ensures in
-    finishes (a .n) (a .variables) _ _ _ (walk.Missing (c .before .before .before .before .before .end3 .given .0 .0) (c .before .before .before .before .before .end3 .given .0 .1 .0)) (c .before .before .before .before .before .end3 .given .1) (h .0) refl (h .1)
+    finishes (a .n) (a .variables) _ _ _ (walk.Missing (c .before .before .before .before .before .end3 .given .0 .0) (c .before .before .before .before .before .end3 .given .0 .1 .0) (c .before .before .before .before .before .end3 .given .0 .1 .1 .0)) (c .before .before .before .before .before .end3 .given .1) (h .0) refl (h .1)
 
 same-length-4 : tie.Need-same-length-4
 same-length-4 c = search needs
@@ -106,7 +106,7 @@ returns-4 : tie.Need-returns-4
 returns-4 c =
     let a = c .before .before .before .before .before .before .before .before .before .args in
     let h = c .before .before .close-all3 .ensures in
-    finishes (a .n) (a .variables) _ _ _ (walk.End (c .before .before .before .before .before .end4 .given .0 .0) (c .before .before .before .before .before .end4 .given .0 .1 .0)) (c .before .before .before .before .before .end4 .given .1) (h .0) refl (h .1)
+    finishes (a .n) (a .variables) _ _ _ (walk.End (c .before .before .before .before .before .end4 .given .0 .0) (c .before .before .before .before .before .end4 .given .0 .1 .0) (c .before .before .before .before .before .end4 .given .0 .1 .1 .0)) (c .before .before .before .before .before .end4 .given .1) (h .0) refl (h .1)
 
 pub finish-spec : {M : Type 1} → statement M
 finish-spec =

@@ -8,10 +8,12 @@ use Rattle.calls.proofs.Table.{weight}
 use Rattle.grammar.specs.Words.{ruleIn}
 use Rattle.schema.specs.Derivation.{_at_}
 use Rattle.schema.specs.Table.{cell, cells}
-use Rattle.memo.specs.Walk.{before, openMark, Saw}
+use Rattle.memo.specs.Look.{Saw}
+use Rattle.memo.specs.Walk.{before, openMark}
 use Rattle.memo.proofs.Marks.{mark}
 use Rattle.memo.proofs.Numbers.{cell-small, cells-small}
-use Rattle.memo.proofs.Going.{open-within, open-falls, settle-falls, room-before, walkable-still, work-still, table-length, bounds, in-table, in-work}
+use Rattle.memo.proofs.Through.{open-within, open-falls, settle-falls}
+use Rattle.memo.proofs.Going.{room-before, walkable-still, work-still, table-length, bounds, in-table, in-work}
 use Rattle.memo.proofs.Laying.{Writing, begins-writing, opens-writing, output-length}
 use Rattle.memo.proofs.Laid.{settles-writing, line-room}
 use Rattle.memo.proofs.LinesEnd.{never-again, never-missing, never-end, ends-writing}
@@ -45,7 +47,7 @@ look-at-requires : tie.Need-look-at-requires Inv-loop μ-loop
 look-at-requires c κs =
     let L = c .before .loop in
     let st = c .before .before .before .before .before .before .before in
-    (walkable-still (st .pre .ready) (L .inv .going), L .inv .going .within)
+    (walkable-still (st .pre .ready) (L .inv .going .through), L .inv .going .within)
 
 enum-known-b : tie.Need-enum-known-b Inv-loop μ-loop
 enum-known-b c = search needs
@@ -61,7 +63,7 @@ cell-number-requires-2 c κs =
     let w = r .walkable in
     let g = L .inv .going in
     let saw = subst (Saw (ruleIn (a .rules .now)) (a .input .now) (L .table) (L .a at L .p)) (o .b .given .1) (k .look-at .ensures) in
-    let i = open-within (ruleIn (a .rules .now)) (a .input .now) (a .variables) (w .closed) (w .few) (w .short) g (room-before r) _ _ (saw .0) (saw .1) in
+    let i = open-within (ruleIn (a .rules .now)) (a .input .now) (a .variables) (w .closed) (w .few) (w .short) (g .within) (g .through) (room-before r) _ _ (saw .0 .1) (saw .1) in
     bounds r g _ _ i
 
 store-requires : tie.Need-store-requires Inv-loop μ-loop
@@ -75,7 +77,7 @@ store-requires c κs =
     let w = r .walkable in
     let g = L .inv .going in
     let saw = subst (Saw (ruleIn (a .rules .now)) (a .input .now) (L .table) (L .a at L .p)) (o .b .given .1) (k .look-at .ensures) in
-    let i = open-within (ruleIn (a .rules .now)) (a .input .now) (a .variables) (w .closed) (w .few) (w .short) g (room-before r) _ _ (saw .0) (saw .1) in
+    let i = open-within (ruleIn (a .rules .now)) (a .input .now) (a .variables) (w .closed) (w .few) (w .short) (g .within) (g .through) (room-before r) _ _ (saw .0 .1) (saw .1) in
     subst (λ (j : ℕ). j < length (L .table)) (sym (c .before .cell-number2 .ensures)) (in-table r g _ _ i)
 
 pack-requires : tie.Need-pack-requires Inv-loop μ-loop
@@ -103,7 +105,7 @@ mul-work c =
     let w = r .walkable in
     let g = L .inv .going in
     let saw = subst (Saw (ruleIn (a .rules .now)) (a .input .now) (L .table) (L .a at L .p)) (o .b .given .1) (k .look-at .ensures) in
-    let i = open-within (ruleIn (a .rules .now)) (a .input .now) (a .variables) (w .closed) (w .few) (w .short) g (room-before r) _ _ (saw .0) (saw .1) in
+    let i = open-within (ruleIn (a .rules .now)) (a .input .now) (a .variables) (w .closed) (w .few) (w .short) (g .within) (g .through) (room-before r) _ _ (saw .0 .1) (saw .1) in
     let b = bounds r g _ _ i in
     let m = cell-small (length (a .input .now)) _ _ (b .1) (b .2) (b .3) in
     omega (arith, c .before .before .before .before .before .cell-number2 .ensures)
@@ -119,7 +121,7 @@ slice-write-work c =
     let w = r .walkable in
     let g = L .inv .going in
     let saw = subst (Saw (ruleIn (a .rules .now)) (a .input .now) (L .table) (L .a at L .p)) (o .b .given .1) (k .look-at .ensures) in
-    let i = open-within (ruleIn (a .rules .now)) (a .input .now) (a .variables) (w .closed) (w .few) (w .short) g (room-before r) _ _ (saw .0) (saw .1) in
+    let i = open-within (ruleIn (a .rules .now)) (a .input .now) (a .variables) (w .closed) (w .few) (w .short) (g .within) (g .through) (room-before r) _ _ (saw .0 .1) (saw .1) in
     subst (λ (j : ℕ). j < length (L .work)) (sym (c .before .before .before .before .before .cell-number2 .ensures)) (in-work r g _ _ i)
 
 loop-less : tie.Need-loop-less Inv-loop μ-loop
@@ -133,7 +135,7 @@ loop-less c =
     let w = r .walkable in
     let g = L .inv .going in
     let saw = subst (Saw (ruleIn (a .rules .now)) (a .input .now) (L .table) (L .a at L .p)) (o .b .given .1) (k .look-at .ensures) in
-    rw (c .before .before .before .store .ensures ∙ ap (λ (j : ℕ). set (L .table) j openMark) (c .before .before .before .before .before .cell-number2 .ensures)) (open-falls (ruleIn (a .rules .now)) (a .input .now) (a .variables) (w .closed) (w .few) (w .short) g (room-before r) _ _ (saw .0) (saw .1))
+    rw (c .before .before .before .store .ensures ∙ ap (λ (j : ℕ). set (L .table) j openMark) (c .before .before .before .before .before .cell-number2 .ensures)) (open-falls (ruleIn (a .rules .now)) (a .input .now) (a .variables) (w .closed) (w .few) (w .short) (g .within) (g .through) (room-before r) _ _ (saw .0 .1) (saw .1))
 
 loop-again : tie.Need-loop-again Inv-loop μ-loop
 loop-again c =
@@ -147,7 +149,7 @@ loop-again c =
     let g = L .inv .going in
     let saw = subst (Saw (ruleIn (a .rules .now)) (a .input .now) (L .table) (L .a at L .p)) (o .b .given .1) (k .look-at .ensures) in
     rw ((c .before .before .before .store .ensures ∙ ap (λ (j : ℕ). set (L .table) j openMark) (c .before .before .before .before .before .cell-number2 .ensures)), c .before .before .before .before .before .cell-number2 .ensures)
-    (opens-writing (ruleIn (a .rules .now)) (a .input .now) (a .variables) (w .closed) (w .few) (w .short) (L .inv) (room-before r) (r .work-room) _ _ (saw .0) (saw .1) (c .pack .result) (c .pack .ensures))
+    (opens-writing (ruleIn (a .rules .now)) (a .input .now) (a .variables) (w .closed) (w .few) (w .short) (L .inv) (room-before r) (r .work-room) _ _ (saw .0 .1) (saw .1) (c .pack .result) (c .pack .ensures))
 
 enum-known-cell : tie.Need-enum-known-cell Inv-loop μ-loop
 enum-known-cell c = search needs
@@ -163,7 +165,7 @@ lay-line-requires c κs =
     let w = r .walkable in
     let g = L .inv .going in
     let saw = subst (Saw (ruleIn (a .rules .now)) (a .input .now) (L .table) (L .a at L .p)) (o .cell .given .1) (k .look-at .ensures) in (
-      record { walkable = walkable-still r g; within = g .within; work-room = work-still r g; found = saw .0; given = saw .2; settled = saw .1 },
+      record { walkable = walkable-still r (g .through); within = g .within; work-room = work-still r g; found = saw .0; given = saw .2; settled = saw .1 },
       line-room (ruleIn (a .rules .now)) (a .input .now) (a .variables) (w .closed) (w .few) (w .short) (L .inv) (room-before r) (r .work-room) _ (saw .0) (saw .1) (saw .2) (st .pre .out-room),
     )
 
@@ -289,7 +291,7 @@ same-length c =
     let w = r .walkable in
     let g = L .inv .going in
     let saw = subst (Saw (ruleIn (a .rules .now)) (a .input .now) (L .table) (L .a at L .p)) (o .cell .given .1) (k .look-at .ensures) in
-    ap length (c .before .before .before .store2 .ensures) ∙ simp length-set (table-length r g)
+    ap length (c .before .before .before .store2 .ensures) ∙ simp length-set (table-length r (g .through))
 
 same-length-2 : tie.Need-same-length-2 Inv-loop μ-loop
 same-length-2 c =
@@ -304,7 +306,7 @@ same-length-2 c =
     let w = r .walkable in
     let g = L .inv .going in
     let saw = subst (Saw (ruleIn (a .rules .now)) (a .input .now) (L .table) (L .a at L .p)) (o .cell .given .1) (k .look-at .ensures) in
-    simp length-set (g .through .work-size)
+    simp length-set (g .work-size)
 
 same-length-3 : tie.Need-same-length-3 Inv-loop μ-loop
 same-length-3 c =
@@ -350,7 +352,7 @@ loop-less-2 c =
     let w = r .walkable in
     let g = L .inv .going in
     let saw = subst (Saw (ruleIn (a .rules .now)) (a .input .now) (L .table) (L .a at L .p)) (o .cell .given .1) (k .look-at .ensures) in
-    rw (c .before .before .before .store2 .ensures ∙ ap (λ (j : ℕ). set (L .table) j (o .cell .given .0 .0 .0)) (n .cell-number3 .ensures)) (settle-falls (ruleIn (a .rules .now)) (a .input .now) (a .variables) (w .closed) (w .few) (w .short) g (room-before r) _ (saw .0) (saw .1) (saw .2))
+    rw (c .before .before .before .store2 .ensures ∙ ap (λ (j : ℕ). set (L .table) j (o .cell .given .0 .0 .0)) (n .cell-number3 .ensures)) (settle-falls (ruleIn (a .rules .now)) (a .input .now) (a .variables) (w .closed) (w .few) (w .short) (g .within) (g .through) (room-before r) _ (saw .0) (saw .1) (saw .2))
 
 loop-again-2 : tie.Need-loop-again-2 Inv-loop μ-loop
 loop-again-2 c =
@@ -380,7 +382,7 @@ same-length-4 c =
     let r = st .pre .ready in
     let w = r .walkable in
     let g = L .inv .going in
-    table-length r g
+    table-length r (g .through)
 
 same-length-5 : tie.Need-same-length-5 Inv-loop μ-loop
 same-length-5 c =
@@ -391,7 +393,7 @@ same-length-5 c =
     let r = st .pre .ready in
     let w = r .walkable in
     let g = L .inv .going in
-    g .through .work-size
+    g .work-size
 
 same-length-6 : tie.Need-same-length-6 Inv-loop μ-loop
 same-length-6 c =
@@ -414,7 +416,7 @@ returns-2 c =
     let w = r .walkable in
     let g = L .inv .going in
     let saw = subst (Saw (ruleIn (a .rules .now)) (a .input .now) (L .table) (L .a at L .p)) (c .enum-told .given .1) (k .look-at .ensures) in
-    absurd (never-again (ruleIn (a .rules .now)) (a .input .now) (a .variables) (w .closed) (w .few) (w .short) (r .within) g (st .pre .found) (st .pre .has) _ _ (saw .0) (saw .1))
+    absurd (never-again (ruleIn (a .rules .now)) (a .input .now) (a .variables) (w .closed) (w .few) (w .short) (r .within) g (st .pre .found) (st .pre .has) _ _ (saw .0 .1) (saw .1))
 
 enum-told-2 : tie.Need-enum-told-2 Inv-loop μ-loop
 enum-told-2 c = search needs
@@ -428,7 +430,7 @@ same-length-7 c =
     let r = st .pre .ready in
     let w = r .walkable in
     let g = L .inv .going in
-    table-length r g
+    table-length r (g .through)
 
 same-length-8 : tie.Need-same-length-8 Inv-loop μ-loop
 same-length-8 c =
@@ -439,7 +441,7 @@ same-length-8 c =
     let r = st .pre .ready in
     let w = r .walkable in
     let g = L .inv .going in
-    g .through .work-size
+    g .work-size
 
 same-length-9 : tie.Need-same-length-9 Inv-loop μ-loop
 same-length-9 c =
@@ -476,7 +478,7 @@ same-length-10 c =
     let r = st .pre .ready in
     let w = r .walkable in
     let g = L .inv .going in
-    table-length r g
+    table-length r (g .through)
 
 same-length-11 : tie.Need-same-length-11 Inv-loop μ-loop
 same-length-11 c =
@@ -487,7 +489,7 @@ same-length-11 c =
     let r = st .pre .ready in
     let w = r .walkable in
     let g = L .inv .going in
-    g .through .work-size
+    g .work-size
 
 same-length-12 : tie.Need-same-length-12 Inv-loop μ-loop
 same-length-12 c =

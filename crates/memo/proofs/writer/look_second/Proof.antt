@@ -4,8 +4,8 @@ use Rattle.schema.specs.Derivation.{_at_, success, failure}
 use Rattle.memo.specs.Walk.{Fits}
 use Rattle.memo.proofs.Looking.{held-is, failure-settled, success-settled}
 use borrow.Author.Needs.{needs}
-use Rattle.memo.proofs.look_second.Statement.{statement}
-use Rattle.memo.proofs.look_second.Tie as tie
+use Rattle.memo.proofs.writer.look_second.Statement.{statement}
+use Rattle.memo.proofs.writer.look_second.Tie as tie
 
 cell-number-requires : tie.Need-cell-number-requires
 cell-number-requires c κs = search needs

@@ -1,3 +1,4 @@
+use mathlib.Core.Bool.{false}
 use mathlib.Core.Path.{sym, _∙_, subst}
 use Prim.Native.Nat.{ℕ, _-_, _<_}
 use lib.ListN.{length}
@@ -6,8 +7,8 @@ use Rattle.schema.specs.Derivation.{_at_, success, failure}
 use Rattle.memo.specs.Walk.{Fits, Settled, first-called}
 use Rattle.memo.proofs.Looking.{held-is, failure-settled, success-settled, second-saw, ready-cell}
 use borrow.Author.Needs.{needs}
-use Rattle.memo.proofs.look_calls.Statement.{statement}
-use Rattle.memo.proofs.look_calls.Tie as tie
+use Rattle.memo.proofs.writer.look_calls.Statement.{statement}
+use Rattle.memo.proofs.writer.look_calls.Tie as tie
 
 cell-number-requires : tie.Need-cell-number-requires
 cell-number-requires c κs =
@@ -54,7 +55,7 @@ returns-2 c =
     let y = a .b at a .position in
     let k = l .load .result .0 in
     let e = held-is (length s) (a .table .now) y k (l .before .cell-number .result) (l .load .ensures) (l .before .cell-number .ensures) in
-    λ A q. (first-called q, rw e (record { no-failure = c .before .before .before .if1 .left; no-success = c .if2 .taken }))
+    λ A q. ((false, first-called q), rw e (record { no-failure = c .before .before .before .if1 .left; no-success = c .if2 .taken }))
 
 returns-3 : tie.Need-returns-3
 returns-3 c =
@@ -65,7 +66,7 @@ returns-3 c =
     let y = a .b at a .position in
     let k = l .load .result .0 in
     let e = held-is (length s) (a .table .now) y k (l .before .cell-number .result) (l .load .ensures) (l .before .cell-number .ensures) in
-    λ A q. (first-called q, e ∙ c .if3 .taken)
+    λ A q. ((false, first-called q), e ∙ c .if3 .taken)
 
 sub-look-second : tie.Need-sub-look-second
 sub-look-second c = search needs

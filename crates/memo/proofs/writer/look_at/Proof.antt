@@ -7,8 +7,8 @@ use Rattle.schema.specs.Act.{told}
 use Rattle.memo.specs.Walk.{by-leaf}
 use Rattle.memo.proofs.Looking.{failure-settled, leaf-end, calls-ready}
 use borrow.Author.Needs.{needs}
-use Rattle.memo.proofs.look_at.Statement.{statement}
-use Rattle.memo.proofs.look_at.Tie as tie
+use Rattle.memo.proofs.writer.look_at.Statement.{statement}
+use Rattle.memo.proofs.writer.look_at.Tie as tie
 
 act-at-requires : tie.Need-act-at-requires
 act-at-requires c κs =

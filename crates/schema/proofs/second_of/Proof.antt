@@ -1,10 +1,10 @@
 -- `second_of` gives the second operand or the third. Assumes nothing.
 use mathlib.Core.Path.{sym}
 use denote.Ref.{now}
-use Rattle.backtrack.proofs.RuleWords.{operands}
+use Rattle.schema.proofs.RuleWords.{operands}
 use borrow.Author.Needs.{needs}
-use Rattle.backtrack.proofs.second_of.Statement.{statement}
-use Rattle.backtrack.proofs.second_of.Tie as tie
+use Rattle.schema.proofs.second_of.Statement.{statement}
+use Rattle.schema.proofs.second_of.Tie as tie
 
 sub-word : tie.Need-sub-word
 sub-word c = search needs
