@@ -6,16 +6,13 @@ ghost use Rattle.grammar.specs.Class.{classOf};
 pub fn class_of(b: u8) -> u8
     ensures { λ r. ⌜ r ≡ classOf b ⌝ }
 {
-    if b < 9 {
-        return 0;
-    }
-    if b < 10 {
+    if b == 9 {
         return 4;
     }
     if b < 32 {
         return 0;
     }
-    if b < 33 {
+    if b == 32 {
         return 4;
     }
     if b < 48 {
@@ -39,7 +36,7 @@ pub fn class_of(b: u8) -> u8
     if b < 127 {
         return 5;
     }
-    if b < 128 {
+    if b == 127 {
         return 0;
     }
     6

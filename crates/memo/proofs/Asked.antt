@@ -1,5 +1,5 @@
 -- Asking, step by step: the walk from the blanked table, the closing, the answer. Assumes nothing.
-use mathlib.Core.Path.{_≡_, refl, ap, _∙_}
+use mathlib.Core.Path.{_≡_, ap, _∙_}
 use mathlib.Core.List.{List}
 use mathlib.Core.Logic.{inl, inr}
 use Prim.Native.Nat.{ℕ, _≤_}
@@ -37,18 +37,18 @@ module _ {rule : ℕ → Rule} {s : List ℕ} {v A p : ℕ} {T W : List ℕ} (r 
 
   module _ {T₂ W₁ : List ℕ} where
     -- The closing may begin.
-    pub may-finish : (end : Walk) → WalkEnds rule s v (A at p) (before (length s) (A at p) T₁) T₂ W W₁ end → FinishReady (length s) v A p T₂ W₁ end
+    pub may-finish : (end : Walk) → WalkEnds rule s v (A at p) (before (length s) (A at p) T₁) T₂ W W₁ end → FinishReady (length s) v T₂ W₁ end
     may-finish (walk.Settled c) h =
         let m = room-before in
         let z = h .table .size in
         let k = h .settled-code in
         record { few = r .few; short = r .short; room = omega arith; code-is = code-of (length s) (c .0) (k .0) (k .1); no-open = no-open (h .table) (h .stops-at) }
     may-finish (walk.Loop a e B q d) h =
-        close-ready h A p B q 2 refl (r .few) (r .short) (λ z. omega arith) room-before (r .work-room) (h .stops-at)
+        close-ready h B q 2 (r .few) (r .short) (λ z. omega arith) room-before (r .work-room) (h .stops-at)
     may-finish (walk.Missing B q d) h =
-        close-ready h A p B q 3 refl (r .few) (r .short) (λ z. omega arith) room-before (r .work-room) (h .stops-at)
+        close-ready h B q 3 (r .few) (r .short) (λ z. omega arith) room-before (r .work-room) (h .stops-at)
     may-finish (walk.End B q d) h =
-        close-ready h A p B q 4 refl (r .few) (r .short) (λ z. omega arith) room-before (r .work-room) (h .stops-at)
+        close-ready h B q 4 (r .few) (r .short) (λ z. omega arith) room-before (r .work-room) (h .stops-at)
 
     -- The answer.
     pub asked : {T₃ : List ℕ} {end : Walk} (a : Answer) → WalkEnds rule s v (A at p) (before (length s) (A at p) T₁) T₂ W W₁ end → Finishes (length s) v end T₂ T₃ a

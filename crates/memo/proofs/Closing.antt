@@ -40,7 +40,8 @@ next-of : {W : List ℕ} {root y : Pair} {d : ℕ} {ps : List Pair} → Trail W 
 next-of (called-by {x = x} {ps = ps} k f e t) = record { caller = x; second = k; rest = ps; rest-is = refl; name-is = e; trail = t; fresh = f }
 
 -- Before the cell of a at p is closed, with c, from the table T₀; d callers are left.
-pub record Closing (n v : ℕ) (root : Pair) (c : ℕ) (T₀ T W : List ℕ) (a p d : ℕ) : Type 0 where
+pub record Closing (n v c : ℕ) (T₀ T W : List ℕ) (a p d : ℕ) : Type 0 where
+  pub root : Pair
   pub rest : List Pair
   pub trail : Trail W root d ((a at p) ∷ rest)
   pub deep : d ≤ cells v n
@@ -51,7 +52,7 @@ pub record Closing (n v : ℕ) (root : Pair) (c : ℕ) (T₀ T W : List ℕ) (a 
   pub later : drop (cells v n) T ≡ drop (cells v n) T₀
   pub size : length T ≡ length T₀
 
-module _ {n v A p B q c depth : ℕ} {T₀ W : List ℕ} (r : CloseReady n v A p B q depth c T₀ W) where
+module _ {n v B q c depth : ℕ} {T₀ W : List ℕ} (r : CloseReady n v B q depth c T₀ W) where
   within-pair : (y : Pair) → List·Memᴰ y ((B at q) ∷ r .rest) → PairWithin v n y
   within-pair (C at D) m = r .within-all C D m
 
@@ -61,8 +62,9 @@ module _ {n v A p B q c depth : ℕ} {T₀ W : List ℕ} (r : CloseReady n v A p
   on-pair : (y : Pair) → PairWithin v n y → held n T₀ y ≡ openMark → List·Memᴰ y ((B at q) ∷ r .rest)
   on-pair (C at D) w e = r .on-trail C D w e
 
-  pub begins : Closing n v (A at p) c T₀ T₀ W B q depth
+  pub begins : Closing n v c T₀ T₀ W B q depth
   begins = record {
+    root = r .root;
     rest = r .rest;
     trail = r .trail;
     deep = r .deep;
@@ -74,7 +76,7 @@ module _ {n v A p B q c depth : ℕ} {T₀ W : List ℕ} (r : CloseReady n v A p
     size = refl;
   }
 
-  module _ {T : List ℕ} {a d left : ℕ} (g : Closing n v (A at p) c T₀ T W a d left) where
+  module _ {T : List ℕ} {a d left : ℕ} (g : Closing n v c T₀ T W a d left) where
     pub top-within : Within v n a d
     top-within = g .within-all (a at d) (List·Memᴰ.List·Memᴰ·head refl)
 
@@ -118,7 +120,7 @@ module _ {n v A p B q c depth : ℕ} {T₀ W : List ℕ} (r : CloseReady n v A p
     -- The asked pair was the last.
     pub closes : left ≡ 0 → Closes (cells v n) c T₀ (set T (cell n (a at d)) c)
     closes e =
-        let none = at-asked (subst (λ (k : ℕ). Trail W (A at p) k ((a at d) ∷ g .rest)) e (g .trail)) in
+        let none = at-asked (subst (λ (k : ℕ). Trail W (g .root) k ((a at d) ∷ g .rest)) e (g .trail)) in
         record {
           opened = λ i l h. elim (done-after i l h) [
             | inl k ↦ k
@@ -131,21 +133,22 @@ module _ {n v A p B q c depth : ℕ} {T₀ W : List ℕ} (r : CloseReady n v A p
 
     -- Its caller is next.
     pub goes-on : (under : ℕ) → left ≡ suc under
-        → Closing n v (A at p) c T₀ (set T (cell n (a at d)) c) W (getD W under 0 / 16384) (getD W under 0 / 2 % 8192) under
-    goes-on under down = next (next-of (subst (λ (k : ℕ). Trail W (A at p) k ((a at d) ∷ g .rest)) down (g .trail)))
+        → Closing n v c T₀ (set T (cell n (a at d)) c) W (getD W under 0 / 16384) (getD W under 0 / 2 % 8192) under
+    goes-on under down = next (next-of (subst (λ (k : ℕ). Trail W (g .root) k ((a at d) ∷ g .rest)) down (g .trail)))
       where
-        next : Next W (A at p) (a at d) under (g .rest) → Closing n v (A at p) c T₀ (set T (cell n (a at d)) c) W (getD W under 0 / 16384) (getD W under 0 / 2 % 8192) under
+        next : Next W (g .root) (a at d) under (g .rest) → Closing n v c T₀ (set T (cell n (a at d)) c) W (getD W under 0 / 16384) (getD W under 0 / 2 % 8192) under
         next k = named (k .caller) refl
           where
-            named : (y : Pair) → k .caller ≡ y → Closing n v (A at p) c T₀ (set T (cell n (a at d)) c) W (getD W under 0 / 16384) (getD W under 0 / 2 % 8192) under
+            named : (y : Pair) → k .caller ≡ y → Closing n v c T₀ (set T (cell n (a at d)) c) W (getD W under 0 / 16384) (getD W under 0 / 2 % 8192) under
             named (C at D) y =
                 let m : (z : Pair) → List·Memᴰ z ((C at D) ∷ k .rest) → List·Memᴰ z (g .rest) =
                 λ z i. subst (List·Memᴰ z) (sym (k .rest-is ∙ ap (λ (u : Pair). u ∷ k .rest) y)) i in
                 let w : Within v n C D = g .within-all (C at D) (List·Memᴰ.List·Memᴰ·tail (m (C at D) (List·Memᴰ.List·Memᴰ·head refl))) in
                 let e = entry-parts (k .second) C D n (r .short) (w .place) (k .name-is ∙ ap (entry (k .second)) y) in
                 rw (e .variable, e .position) (record {
+                  root = g .root;
                   rest = k .rest;
-                  trail = subst (λ (u : Pair). Trail W (A at p) under (u ∷ k .rest)) y (k .trail);
+                  trail = subst (λ (u : Pair). Trail W (g .root) under (u ∷ k .rest)) y (k .trail);
                   deep = let l = g .deep in omega arith;
                   within-all = λ z i. g .within-all z (List·Memᴰ.List·Memᴰ·tail (m z i));
                   open-all = λ z i.

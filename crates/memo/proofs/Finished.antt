@@ -23,9 +23,9 @@ none-closes n = record { opened = λ i l h. absurd (n i l h); others = λ i d. r
 
 module _ {rule : ℕ → Rule} {s : List ℕ} {v : ℕ} {x : Pair} {O T U W : List ℕ} {r : Walk} (ends : WalkEnds rule s v x O T U W r) where
   -- What the call to close is handed.
-  pub close-ready : (A p B q c : ℕ) → x ≡ A at p → v ≤ 256 → length s ≤ 4096 → c ≢ openMark → cells v (length s) ≤ length O → cells v (length s) ≤ length U
-      → (ps : List Pair) × (ends .opens ≡ (B at q) ∷ ps) → CloseReady (length s) v A p B q (depthOf r) c T W
-  close-ready A p B q c e few short d room work-room t =
+  pub close-ready : (B q c : ℕ) → v ≤ 256 → length s ≤ 4096 → c ≢ openMark → cells v (length s) ≤ length O → cells v (length s) ≤ length U
+      → (ps : List Pair) × (ends .opens ≡ (B at q) ∷ ps) → CloseReady (length s) v B q (depthOf r) c T W
+  close-ready B q c few short d room work-room t =
       let z = ends .table .size in
       let y = ends .work-size in
       record {
@@ -35,8 +35,9 @@ module _ {rule : ℕ → Rule} {s : List ℕ} {v : ℕ} {x : Pair} {O T U W : Li
         room = omega arith;
         work-room = omega arith;
         deep = ends .deep;
+        root = x;
         rest = t .0;
-        trail = rw (← e, ← t .1) (ends .trail);
+        trail = rw (← t .1) (ends .trail);
         within-all = λ C D m. ends .table .trail-open C D (subst (List·Memᴰ (C at D)) (sym (t .1)) m) .0;
         open-all = λ C D m. ends .table .trail-open C D (subst (List·Memᴰ (C at D)) (sym (t .1)) m) .1;
         on-trail = λ C D i h. subst (List·Memᴰ (C at D)) (t .1) (ends .table .on-trail C D i h);

@@ -16,11 +16,10 @@ use Rattle.schema.specs.Derivation.{Pair, _at_, Result, success, failure, Stop,
 use Rattle.schema.specs.Table.{Within, cell, cells, held}
 use Rattle.schema.proofs.Closed.{calls-call}
 use Rattle.schema.proofs.Cell.{pairOf, PairWithin, cell-below, cell-pair, pair-cell, pair-within}
+use Rattle.memo.specs.Answer.{Code}
 use Rattle.memo.specs.Walk.{openMark, Unsettled, Settled, Called, first-called, second-called, Given, by-leaf, by-calls, entry, Trail, nothing-open, before, WalkReady, WalkEnds, TableEnds, resultOf, outcomeOf, namedOf, depthOf, StopsAt, SettledCode}
-use Rattle.memo.specs.Step.{Acts, Finds, GoesBack, StepReady, LookedUp, settled-before, leaf-settled, topOf, calledOf, Seconds, Settles, Returns, Opens, Descends, Stuck, StepEnds, Steps}
+use Rattle.memo.specs.Step.{LookedUp, settled-before, leaf-settled, topOf, calledOf, StepReady, Seconds, Settles, Returns, GoesBack, ToSecond, ResumeReady, Resumes, Opens, Descends, Stuck, StepEnds, Steps}
 use Rattle.memo.specs.declared.Cell.{Cell}
-use Rattle.memo.specs.declared.Found.{Found}
-use Rattle.memo.specs.declared.Found.the-variants as looked
 use Rattle.memo.specs.declared.State.{State}
 use Rattle.memo.specs.declared.Step.{Step}
 use Rattle.memo.specs.declared.Step.the-variants as step
@@ -33,14 +32,6 @@ use Rattle.memo.proofs.Marks.{mark, stands}
 use Rattle.memo.proofs.Standing.{Stacked, alone, above, Standing, called-still, stacked-still, stacked-above, trail-pairs, at-bottom, deep-enough}
 use Rattle.memo.proofs.Through.{Through, begins-through, called-within, open-falls, open-through, leaf-through, leaf-falls, settle-falls, settle-through}
 use Rattle.memo.proofs.Visiting.{settled-not}
-
--- A pair that is not settled is found as its rule acts.
-pub finds-acts : (rule : ℕ → Rule) (s T T′ : List ℕ) (y : Pair) → Unsettled (held (length s) T y) → (r : Found) → Acts rule s T T′ y r → Finds rule s T T′ y r
-finds-acts rule s T T′ y u (looked.Settled c) h = (h .0, h .1, rw (h .3) (leaf-settled u (h .2) (h .1)))
-finds-acts rule s T T′ y u (looked.Open B) h = (u, h)
-finds-acts rule s T T′ y u looked.Again h = absurd h
-finds-acts rule s T T′ y u looked.Missing h = (u, h)
-finds-acts rule s T T′ y u looked.End h = (u, h)
 
 -- The bounds that a step relies on.
 pub record Bounds (s : List ℕ) (v : ℕ) (T W : List ℕ) (x : State) : Type 0 where
@@ -70,6 +61,21 @@ step-bounds {rule} {s} {v} {T} {W} {x} r =
     let p = i .place in
     record { low = i .low; high = omega arith; position-small = omega arith; top-cell = omega arith; called-in = j; called-high = omega arith; called-cell = omega arith; deep = omega arith }
 
+-- What going on with a result asks, over a table of the same length.
+pub resume-ready : {rule : ℕ → Rule} {s : List ℕ} {v : ℕ} {T W : List ℕ} {x : State} → StepReady rule s v T W x → (T₁ : List ℕ) → length T₁ ≡ length T → (c : ℕ) → Code c
+    → ResumeReady (length s) T₁ W x c
+resume-ready {s = s} {x = x} r T₁ e c code =
+    let b = step-bounds r in
+    record {
+      low = b .low;
+      high = b .high;
+      short = r .walkable .short;
+      place = r .within .place;
+      top-cell = subst (λ (j : ℕ). cell (length s) (topOf x) < j) (sym e) (b .top-cell);
+      deep = let d = b .deep in omega arith;
+      code-is = code;
+    }
+
 -- ---- What a step does, from what its parts do.
 
 module _ (rule : ℕ → Rule) (s : List ℕ) where
@@ -86,38 +92,42 @@ module _ (rule : ℕ → Rule) (s : List ℕ) where
       subst (Called rule s T′ true (A at p)) (sym (f B C D (calls-call (rule A) s p B C D e) ∙ ap (second C D p) (result-is (length s) c r m))) (second-called e h)
   second-next A p z c r k (second-called e g) h m f = absurd (clash (cc))
 
-  module _ (T W : List ℕ) (x : State) (c : Cell) {r : Result} (code : Settled (length s) (c .0) r) {T₁ : List ℕ} (found : LookedUp rule s T (calledOf x) r T₁) where
-    -- The first call has its result.
-    pub steps-second : x .second ≡ false → Called rule s T (x .second) (topOf x) (calledOf x) → cell (length s) (calledOf x) < length T → (y : State)
-        → ((B C D : ℕ) → rule (x .variable) ≡ call B C D → calledOf y ≡ second C D (x .position) (resultOf (c .0))) × (topOf y ≡ topOf x) × (y .second ≡ true) × (y .depth ≡ x .depth)
-        → Steps rule s T W T₁ W x (step.On y)
-    steps-second e h l y f = inl (record {
+  -- Going on with a result is a step.
+  module _ (T W : List ℕ) (x : State) (c : Cell) {r : Result} (code : Settled (length s) (c .0) r) {T₁ : List ℕ} (found : LookedUp rule s T (calledOf x) r T₁)
+      (called : Called rule s T (x .second) (topOf x) (calledOf x)) (l : cell (length s) (calledOf x) < length T) {T′ : List ℕ} where
+    steps-second : x .second ≡ false → T′ ≡ T₁ → (y : State) → ToSecond rule x c y → Steps rule s T W T′ W x (step.On y)
+    steps-second e t y f = inl (record {
       first-call = e;
       r = r;
-      looked-up = found;
-      called = second-next (x .variable) (x .position) (calledOf y) (c .0) r e h (looked-held T (calledOf x) l found) code (f .0);
+      looked-up = rw t found;
+      called = rw t (second-next (x .variable) (x .position) (calledOf y) (c .0) r e called (looked-held T (calledOf x) l found) code (f .0));
       top-same = f .1;
       second-call = f .2;
       depth-same = f .3;
       work-same = refl;
     })
 
-    module _ {T′ : List ℕ} (e : x .second ≡ true) (t : T′ ≡ set T₁ (cell (length s) (topOf x)) (c .0)) where
-      settles : Settles rule s T W T′ W x (c .0)
-      settles = record { second-call = e; r = r; code-is = code; T₁ = T₁; looked-up = found; table-is = t; work-same = refl }
+    steps-settle : x .second ≡ true → T′ ≡ set T₁ (cell (length s) (topOf x)) (c .0) → (z : Step) → GoesBack W x c z → Steps rule s T W T′ W x z
+    steps-settle e t z h = go z h
+      where
+        settles : Settles rule s T W T′ W x (c .0)
+        settles = record { second-call = e; r = r; code-is = code; T₁ = T₁; looked-up = found; table-is = t; work-same = refl }
 
-      -- The second call has its result.
-      pub steps-settle : (z : Step) → GoesBack W x c z → Steps rule s T W T′ W x z
-      steps-settle (step.On y) h = inr (inl (c .0, settles, h))
-      steps-settle (step.Ended (walk.Settled d)) h = (subst (λ (u : Cell). Settles rule s T W T′ W x (u .0)) (sym (h .0)) settles, h .1)
-      steps-settle (step.Ended (walk.Loop A p B q d)) h = absurd h
-      steps-settle (step.Ended (walk.Missing A p d)) h = absurd h
-      steps-settle (step.Ended (walk.End A p d)) h = absurd h
+        go : (z : Step) → GoesBack W x c z → Steps rule s T W T′ W x z
+        go (step.On y) h = inr (inl (c .0, settles, h))
+        go (step.Ended (walk.Settled d)) h = (subst (λ (u : Cell). Settles rule s T W T′ W x (u .0)) (sym (h .0)) settles, h .1)
+        go (step.Ended (walk.Loop A p B q d)) h = absurd h
+        go (step.Ended (walk.Missing A p d)) h = absurd h
+        go (step.Ended (walk.End A p d)) h = absurd h
+
+    pub steps-resume : (z : Step) → Resumes rule (length s) T₁ W T′ x c z → Steps rule s T W T′ W x z
+    steps-resume z (inl h) = steps-settle (h .0) (h .1) z (h .2)
+    steps-resume z (inr h) = subst (Steps rule s T W T′ W x) (sym (h .2 .1)) (steps-second (h .0) (h .1) (h .2 .0) (h .2 .2))
 
   -- The called pair is opened.
-  pub opens-called : {T W T₁ T′ W′ : List ℕ} (x : State) → Unsettled (held (length s) T (calledOf x)) → T₁ ≡ T → T′ ≡ set T₁ (cell (length s) (calledOf x)) openMark
+  pub opens-called : {T W T′ W′ : List ℕ} (x : State) → Unsettled (held (length s) T (calledOf x)) → T′ ≡ set T (cell (length s) (calledOf x)) openMark
       → W′ ≡ set W (x .depth) (entry (x .second) (topOf x)) → Opens s T W T′ W′ x
-  opens-called x u e t w = record { new = u; table-is = t ∙ ap (λ (M : List ℕ). set M (cell (length s) (calledOf x)) openMark) e; work-is = w }
+  opens-called x u t w = record { new = u; table-is = t; work-is = w }
 
 -- What the walk has still to do: twice the steps of its cells, and one for a first call.
 pub toDo : List ℕ → ℕ → State → ℕ
@@ -413,6 +423,16 @@ module _ {rule : ℕ → Rule} {s : List ℕ} {v A p : ℕ} {T₀ W₀ : List �
   closed : Closed v rule
   closed = r .walkable .closed
 
+  -- The bounds of the asked pair.
+  pub asked-bounds : (1 ≤ A) × (A ≤ 256) × (length s ≤ 4096) × (p ≤ length s) × (cell (length s) (A at p) < length T₀)
+  asked-bounds =
+      let w = r .within in
+      let f = r .walkable .few in
+      let h = w .high in
+      let m = r .walkable .room in
+      let b = cell-below v (length s) (A at p) w in
+      (w .low, omega arith, r .walkable .short, w .place, omega arith)
+
   -- The beginning: the asked pair is open, and no other, and its first call is next.
   pub stands-first : (b C D : ℕ) → act rule s (A at p) ≡ calls b C D → (x : State) → topOf x ≡ A at p → calledOf x ≡ b at p → x .second ≡ false → x .depth ≡ 0
       → Standing rule s v (A at p) O W₀ T₀ W₀ x
@@ -478,8 +498,3 @@ module _ {rule : ℕ → Rule} {s : List ℕ} {v A p : ℕ} {T₀ W₀ : List �
         work-later = refl;
         work-size = refl;
       }
-
--- The table that the walk started from.
-pub ends-from : {rule : ℕ → Rule} {s : List ℕ} {v : ℕ} {x : Pair} {U T W : List ℕ} {r : Walk} (T₀ T₁ : List ℕ) → T₁ ≡ T₀
-    → WalkEnds rule s v x (before (length s) x T₁) T U W r → WalkEnds rule s v x (before (length s) x T₀) T U W r
-ends-from {rule} {s} {v} {x} {U} {T} {W} {r} T₀ T₁ e h = subst (λ (M : List ℕ). WalkEnds rule s v x (before (length s) x M) T U W r) e h

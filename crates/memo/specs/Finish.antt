@@ -21,11 +21,11 @@ pub record NothingOpen (n v c : ℕ) (T : List ℕ) : Type 0 where
   pub no-open : (i : ℕ) → i < cells v n → getD T i 0 ≢ openMark
 
 -- What the last step asks, by how the walk ended: an open cell is closed with the outcome's code.
-abbrev pub FinishReady : ℕ → ℕ → ℕ → ℕ → List ℕ → List ℕ → Walk → Type 0
-FinishReady n v A p T W (walk.Settled c) = NothingOpen n v (c .0) T
-FinishReady n v A p T W (walk.Loop a e B q d) = CloseReady n v A p B q d (code (outcomeOf (walk.Loop a e B q d))) T W
-FinishReady n v A p T W (walk.Missing B q d) = CloseReady n v A p B q d (code (outcomeOf (walk.Missing B q d))) T W
-FinishReady n v A p T W (walk.End B q d) = CloseReady n v A p B q d (code (outcomeOf (walk.End B q d))) T W
+abbrev pub FinishReady : ℕ → ℕ → List ℕ → List ℕ → Walk → Type 0
+FinishReady n v T W (walk.Settled c) = NothingOpen n v (c .0) T
+FinishReady n v T W (walk.Loop a e B q d) = CloseReady n v B q d (code (outcomeOf (walk.Loop a e B q d))) T W
+FinishReady n v T W (walk.Missing B q d) = CloseReady n v B q d (code (outcomeOf (walk.Missing B q d))) T W
+FinishReady n v T W (walk.End B q d) = CloseReady n v B q d (code (outcomeOf (walk.End B q d))) T W
 
 -- The open cells hold the outcome, and the answer counts the table.
 pub record Finishes (n v : ℕ) (end : Walk) (T T′ : List ℕ) (r : Answer) : Type 0 where

@@ -6,13 +6,12 @@ use mathlib.Core.Path.{_≡_}
 use Prim.Native.Nat.{ℕ, _+_, _/_, _%_, _≤_, _<_}
 use lib.Dec.{eqb}
 use lib.ListN.{length, getD, set}
-use Rattle.grammar.specs.Rule.{Rule}
-use Rattle.schema.specs.Derivation.{Pair, _at_, Result, Stop, missing, end, gives, stops, calls, act}
+use Rattle.grammar.specs.Rule.{Rule, call}
+use Rattle.schema.specs.Derivation.{Pair, _at_, Result, Stop, missing, end, gives, stops, calls, act, second}
 use Rattle.schema.specs.Table.{Within, cell, cells, held}
-use Rattle.memo.specs.Walk.{openMark, Unsettled, Settled, Called, Walkable, entry}
+use Rattle.memo.specs.Answer.{Code}
+use Rattle.memo.specs.Walk.{openMark, Unsettled, Settled, Called, Walkable, entry, resultOf}
 use Rattle.memo.specs.declared.Cell.{Cell}
-use Rattle.memo.specs.declared.Found.{Found}
-use Rattle.memo.specs.declared.Found.the-variants as found
 use Rattle.memo.specs.declared.State.{State}
 use Rattle.memo.specs.declared.Step.{Step}
 use Rattle.memo.specs.declared.Step.the-variants as step
@@ -25,22 +24,6 @@ use Rattle.memo.specs.declared.Walk.the-variants as walk
 pub data LookedUp (rule : ℕ → Rule) (s T : List ℕ) (y : Pair) (r : Result) : List ℕ → Type 0 where
   settled-before : Settled (length s) (held (length s) T y) r → LookedUp rule s T y r T
   leaf-settled : {c : ℕ} → Unsettled (held (length s) T y) → act rule s y ≡ gives r → Settled (length s) c r → LookedUp rule s T y r (set T (cell (length s) y) c)
-
--- What the rule of y does: a leaf is settled at once.
-abbrev pub Acts : (ℕ → Rule) → List ℕ → List ℕ → List ℕ → Pair → Found → Type 0
-Acts rule s T T′ y (found.Settled c) = (r : Result) × Settled (length s) (c .0) r × (act rule s y ≡ gives r) × (T′ ≡ set T (cell (length s) y) (c .0))
-Acts rule s T T′ y (found.Open B) = (C : ℕ) × (D : ℕ) × (act rule s y ≡ calls B C D) × (T′ ≡ T)
-Acts rule s T T′ y found.Again = ⊥
-Acts rule s T T′ y found.Missing = (act rule s y ≡ stops missing) × (T′ ≡ T)
-Acts rule s T T′ y found.End = (act rule s y ≡ stops end) × (T′ ≡ T)
-
--- What is found for y.
-abbrev pub Finds : (ℕ → Rule) → List ℕ → List ℕ → List ℕ → Pair → Found → Type 0
-Finds rule s T T′ y (found.Settled c) = (r : Result) × Settled (length s) (c .0) r × LookedUp rule s T y r T′
-Finds rule s T T′ y (found.Open B) = Unsettled (held (length s) T y) × Acts rule s T T′ y (found.Open B)
-Finds rule s T T′ y found.Again = (held (length s) T y ≡ openMark) × (T′ ≡ T)
-Finds rule s T T′ y found.Missing = Unsettled (held (length s) T y) × Acts rule s T T′ y found.Missing
-Finds rule s T T′ y found.End = Unsettled (held (length s) T y) × Acts rule s T T′ y found.End
 
 -- ---- One step of the walk.
 
@@ -96,6 +79,28 @@ GoesBack W x c (step.Ended (walk.Settled d)) = (d ≡ c) × (x .depth ≡ 0)
 GoesBack W x c (step.Ended (walk.Loop A p B q d)) = ⊥
 GoesBack W x c (step.Ended (walk.Missing A p d)) = ⊥
 GoesBack W x c (step.Ended (walk.End A p d)) = ⊥
+
+-- y is x with the second call next: that of C where the first one ended, or of D where the pair stands.
+abbrev pub ToSecond : (ℕ → Rule) → State → Cell → State → Type 0
+ToSecond rule x c y =
+    ((B C D : ℕ) → rule (x .variable) ≡ call B C D → calledOf y ≡ second C D (x .position) (resultOf (c .0))) × (topOf y ≡ topOf x)
+    × (y .second ≡ true) × (y .depth ≡ x .depth)
+
+-- What going on with a result asks,
+pub record ResumeReady (n : ℕ) (T W : List ℕ) (x : State) (c : ℕ) : Type 0 where
+  pub low : 1 ≤ x .variable
+  pub high : x .variable ≤ 256
+  pub short : n ≤ 4096
+  pub place : x .position ≤ n
+  pub top-cell : cell n (topOf x) < length T
+  pub deep : x .depth ≤ length W
+  pub code-is : Code c
+
+-- and what it does.
+abbrev pub Resumes : (ℕ → Rule) → ℕ → List ℕ → List ℕ → List ℕ → State → Cell → Step → Type 0
+Resumes rule n T W T′ x c r =
+    ((x .second ≡ true) × (T′ ≡ set T (cell n (topOf x)) (c .0)) × GoesBack W x c r)
+    ⊎ ((x .second ≡ false) × (T′ ≡ T) × ((y : State) × (r ≡ step.On y) × ToSecond rule x c y))
 
 -- The called pair is opened, and its caller noted.
 pub record Opens (s T W T′ W′ : List ℕ) (x : State) : Type 0 where

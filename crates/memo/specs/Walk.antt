@@ -162,16 +162,17 @@ pub record WalkEnds (rule : ℕ → Rule) (s : List ℕ) (v : ℕ) (x : Pair) (O
 
 -- ---- Closing what is open.
 
--- c is stored in the open cells, from that of B at q to that of the asked pair A at p, by the d callers in the work slice.
-pub record CloseReady (n v A p B q d c : ℕ) (T W : List ℕ) : Type 0 where
+-- c is stored in the open cells, from that of B at q to that of the asked pair, root, by the d callers in the work slice.
+pub record CloseReady (n v B q d c : ℕ) (T W : List ℕ) : Type 0 where
   pub few : v ≤ 256
   pub short : n ≤ 4096
   pub not-open : c ≢ openMark
   pub room : cells v n ≤ length T
   pub work-room : cells v n ≤ length W
   pub deep : d ≤ cells v n
+  pub root : Pair
   pub rest : List Pair
-  pub trail : Trail W (A at p) d ((B at q) ∷ rest)
+  pub trail : Trail W root d ((B at q) ∷ rest)
   pub within-all : (C e : ℕ) → List·Memᴰ (C at e) ((B at q) ∷ rest) → Within v n C e
   pub open-all : (C e : ℕ) → List·Memᴰ (C at e) ((B at q) ∷ rest) → held n T (C at e) ≡ openMark
   pub on-trail : (C e : ℕ) → Within v n C e → held n T (C at e) ≡ openMark → List·Memᴰ (C at e) ((B at q) ∷ rest)

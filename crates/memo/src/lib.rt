@@ -6,9 +6,10 @@ ghost use lib.ListN.{length, take, drop, replicate, getD, set};
 ghost use Rattle.grammar.specs.Rule.{call};
 ghost use Rattle.grammar.specs.Words.{ruleIn};
 ghost use Rattle.schema.specs.Derivation.{_at_, calls, act, second, result};
-ghost use Rattle.schema.specs.Table.{Within, cell, cells, decided};
-ghost use Rattle.memo.specs.Walk.{openMark, Walkable, packed, entry, WalkReady, WalkEnds, before, resultOf, CloseReady, Closes};
-ghost use Rattle.memo.specs.Step.{topOf, calledOf, Acts, Finds, StepReady, GoesBack, Steps};
+ghost use Rattle.schema.specs.Table.{Within, cell, cells, held, decided};
+ghost use Rattle.memo.specs.Walk.{openMark, Unsettled, packed, entry, WalkReady, WalkEnds, before, resultOf, CloseReady, Closes};
+ghost use Rattle.memo.specs.Step.{topOf, calledOf, StepReady, ToSecond, GoesBack, ResumeReady, Resumes, Steps};
+ghost use Rattle.memo.specs.declared.Walk.the-variants.{Settled};
 ghost use Rattle.memo.specs.Answer.{told, reply, Code, AskReady, Says, QuestionPromise};
 ghost use Rattle.memo.specs.Finish.{FinishReady, Finishes};
 ghost use Rattle.memo.specs.Verdict.{numbers, judged, VerdictPromise};
@@ -76,16 +77,6 @@ impl Cell {
     }
 }
 
-// What looking a called pair up finds: the cell of its result; or it is to be opened, with the variable that it calls first; it is open
-// already; it has no rule; or it has no byte.
-enum Found {
-    Settled(Cell),
-    Open(u32),
-    Again,
-    Missing,
-    End,
-}
-
 // Where the walk stands: the latest open pair, the pair that it calls, whether that is its second call, and how many callers the work slice
 // holds.
 struct State {
@@ -118,60 +109,6 @@ fn cell_number(n: usize, variable: u32, position: u32) -> usize
     ensures { λ r. ⌜ r ≡ cell n (variable at position) ⌝ }
 {
     (variable as usize - 1) * (n + 1) + position as usize
-}
-
-// Settles a leaf in its cell; else tells what its rule does.
-fn settle_leaf(
-    rules: &Rules,
-    input: &[u8],
-    table: &mut [u32],
-    variable: u32,
-    position: u32,
-    variables: u32,
-) -> Found
-    requires { ⌜ Walkable (ruleIn (now rules)) (now input) variables (now table) × Within variables (length (now input)) variable position ⌝ }
-    ensures { λ r. ⌜ Acts (ruleIn (now (rules .entry))) (now (input .entry)) (now (table .entry)) (now (table .exit)) (variable at position) r ⌝ }
-{
-    match act_at(rules, input, variable, position) {
-        Act::Success(end) => {
-            let cell = Cell::success(end);
-            cell.store(table, cell_number(input.len(), variable, position));
-            Found::Settled(cell)
-        }
-        Act::Failure => {
-            let cell = Cell::FAILURE;
-            cell.store(table, cell_number(input.len(), variable, position));
-            Found::Settled(cell)
-        }
-        Act::Missing => Found::Missing,
-        Act::End => Found::End,
-        Act::Calls(b, _, _) => Found::Open(b),
-    }
-}
-
-// Looks a pair up in the table; a leaf that is not settled yet is settled at once.
-fn look_up(
-    rules: &Rules,
-    input: &[u8],
-    table: &mut [u32],
-    variable: u32,
-    position: u32,
-    variables: u32,
-) -> Found
-    requires { ⌜ Walkable (ruleIn (now rules)) (now input) variables (now table) × Within variables (length (now input)) variable position ⌝ }
-    ensures { λ r. ⌜ Finds (ruleIn (now (rules .entry))) (now (input .entry)) (now (table .entry)) (now (table .exit)) (variable at position) r ⌝ }
-{
-    let found = Cell::load(table, cell_number(input.len(), variable, position));
-    if found.0 == Cell::FAILURE.0 {
-        return Found::Settled(found);
-    }
-    if found.0 < Cell::SUCCESS.0 {
-        return settle_leaf(rules, input, table, variable, position, variables);
-    }
-    if found.0 == Cell::OPEN.0 {
-        return Found::Again;
-    }
-    Found::Settled(found)
 }
 
 // A pair as one number.
@@ -211,7 +148,7 @@ fn caller_of(x: State, entry: u32, depth: usize) -> State
 // The state at the second call of the top of x, whose first call has a result: c where it ends, or d where the pair stands.
 fn to_second(rules: &Rules, x: State, first: Cell) -> State
     requires { ⌜ (1 ≤ x .variable) × (x .variable ≤ 256) × Code (first .0) ⌝ }
-    ensures { λ r. ⌜ ((B C D : ℕ) → ruleIn (now (rules .entry)) (x .variable) ≡ call B C D → calledOf r ≡ second C D (x .position) (resultOf (first .0))) × (topOf r ≡ topOf x) × (r .second ≡ true) × (r .depth ≡ x .depth) ⌝ }
+    ensures { λ r. ⌜ ToSecond (ruleIn (now (rules .entry))) x first r ⌝ }
 {
     if first.0 == Cell::FAILURE.0 {
         let d = second_of(rules, x.variable, false);
@@ -260,7 +197,64 @@ fn settle_top(n: usize, table: &mut [u32], work: &[u32], x: State, cell: Cell) -
     Step::On(caller_of(x, work[depth], depth))
 }
 
-// One step of the walk.
+// Goes on with the result of the called pair: to the second call, or back to the caller with the latest open pair settled.
+fn resume(rules: &Rules, n: usize, table: &mut [u32], work: &[u32], x: State, cell: Cell) -> Step
+    requires { ⌜ ResumeReady n (now table) (now work) x (cell .0) ⌝ }
+    ensures { λ r. ⌜ Resumes (ruleIn (now (rules .entry))) n (now (table .entry)) (now (work .entry)) (now (table .exit)) x cell r ⌝ }
+{
+    if x.second {
+        return settle_top(n, table, work, x, cell);
+    }
+    Step::On(to_second(rules, x, cell))
+}
+
+// One step of the walk, where the called pair is not settled: a leaf is settled at once, and any other pair is opened.
+fn advance_unsettled(
+    rules: &Rules,
+    input: &[u8],
+    variables: u32,
+    table: &mut [u32],
+    work: &mut [u32],
+    x: State,
+) -> Step
+    requires { ⌜ StepReady (ruleIn (now rules)) (now input) variables (now table) (now work) x × Unsettled (held (length (now input)) (now table) (calledOf x)) ⌝ }
+    ensures { λ r. ⌜ Steps (ruleIn (now (rules .entry))) (now (input .entry)) (now (table .entry)) (now (work .entry)) (now (table .exit)) (now (work .exit)) x r ⌝ }
+{
+    let n = input.len();
+    match act_at(rules, input, x.called, x.place) {
+        Act::Success(end) => {
+            let leaf = Cell::success(end);
+            leaf.store(table, cell_number(n, x.called, x.place));
+            resume(rules, n, table, work, x, leaf)
+        }
+        Act::Failure => {
+            let leaf = Cell::FAILURE;
+            leaf.store(table, cell_number(n, x.called, x.place));
+            resume(rules, n, table, work, x, leaf)
+        }
+        Act::Calls(b, _, _) => {
+            open_called(n, table, work, x);
+            Step::On(State {
+                variable: x.called,
+                position: x.place,
+                called: b,
+                place: x.place,
+                second: false,
+                depth: x.depth + 1,
+            })
+        }
+        Act::Missing => {
+            open_called(n, table, work, x);
+            Step::Ended(Walk::Missing(x.called, x.place, x.depth + 1))
+        }
+        Act::End => {
+            open_called(n, table, work, x);
+            Step::Ended(Walk::End(x.called, x.place, x.depth + 1))
+        }
+    }
+}
+
+// One step of the walk: the called pair is looked up in the table.
 fn advance(
     rules: &Rules,
     input: &[u8],
@@ -273,37 +267,18 @@ fn advance(
     ensures { λ r. ⌜ Steps (ruleIn (now (rules .entry))) (now (input .entry)) (now (table .entry)) (now (work .entry)) (now (table .exit)) (now (work .exit)) x r ⌝ }
 {
     let n = input.len();
-    match look_up(rules, input, table, x.called, x.place, variables) {
-        Found::Settled(cell) => {
-            if x.second {
-                return settle_top(n, table, work, x, cell);
-            }
-            Step::On(to_second(rules, x, cell))
-        }
-        Found::Open(b) => {
-            open_called(n, table, work, x);
-            Step::On(State {
-                variable: x.called,
-                position: x.place,
-                called: b,
-                place: x.place,
-                second: false,
-                depth: x.depth + 1,
-            })
-        }
-        Found::Again => {
-            let end = Walk::Loop(x.called, x.place, x.variable, x.position, x.depth);
-            Step::Ended(end)
-        }
-        Found::Missing => {
-            open_called(n, table, work, x);
-            Step::Ended(Walk::Missing(x.called, x.place, x.depth + 1))
-        }
-        Found::End => {
-            open_called(n, table, work, x);
-            Step::Ended(Walk::End(x.called, x.place, x.depth + 1))
-        }
+    let found = Cell::load(table, cell_number(n, x.called, x.place));
+    if found.0 == Cell::FAILURE.0 {
+        return resume(rules, n, table, work, x, Cell::FAILURE);
     }
+    if found.0 < Cell::SUCCESS.0 {
+        return advance_unsettled(rules, input, variables, table, work, x);
+    }
+    if found.0 == Cell::OPEN.0 {
+        let end = Walk::Loop(x.called, x.place, x.variable, x.position, x.depth);
+        return Step::Ended(end);
+    }
+    resume(rules, n, table, work, x, found)
 }
 
 // Walks on from the first call of an open pair, the only one, that calls b first.
@@ -340,6 +315,16 @@ fn walk_on(
     }
 }
 
+// Settles the asked pair, which is a leaf.
+fn settle_asked(n: usize, variable: u32, position: u32, leaf: Cell, table: &mut [u32]) -> Walk
+    requires { ⌜ (1 ≤ variable) × (variable ≤ 256) × (n ≤ 4096) × (position ≤ n) × (cell n (variable at position) < length (now table)) ⌝ }
+    ensures stores { λ _. ⌜ now (table .exit) ≡ set (now (table .entry)) (cell n (variable at position)) (leaf .0) ⌝ }
+    ensures ends { λ r. ⌜ r ≡ Settled leaf ⌝ }
+{
+    leaf.store(table, cell_number(n, variable, position));
+    Walk::Settled(leaf)
+}
+
 // Walks from an open pair, the only one, until it is settled, or a pair is met a second time, or one has no rule or no byte.
 fn walk_from(
     rules: &Rules,
@@ -353,12 +338,18 @@ fn walk_from(
     requires { ⌜ WalkReady (ruleIn (now rules)) (now input) variables variable position (now table) (now work) ⌝ }
     ensures { λ r. ⌜ WalkEnds (ruleIn (now (rules .entry))) (now (input .entry)) variables (variable at position) (before (length (now (input .entry))) (variable at position) (now (table .entry))) (now (table .exit)) (now (work .entry)) (now (work .exit)) r ⌝ }
 {
-    match settle_leaf(rules, input, table, variable, position, variables) {
-        Found::Settled(cell) => Walk::Settled(cell),
-        Found::Open(b) => walk_on(rules, input, variable, position, b, variables, table, work),
-        Found::Again => Walk::Loop(variable, position, variable, position, 0),
-        Found::Missing => Walk::Missing(variable, position, 0),
-        Found::End => Walk::End(variable, position, 0),
+    match act_at(rules, input, variable, position) {
+        Act::Calls(b, _, _) => walk_on(rules, input, variable, position, b, variables, table, work),
+        Act::Success(end) => settle_asked(
+            input.len(),
+            variable,
+            position,
+            Cell::success(end),
+            table,
+        ),
+        Act::Failure => settle_asked(input.len(), variable, position, Cell::FAILURE, table),
+        Act::Missing => Walk::Missing(variable, position, 0),
+        Act::End => Walk::End(variable, position, 0),
     }
 }
 
@@ -394,8 +385,6 @@ fn count_decided(table: &[u32], size: usize) -> u32
 fn close(
     n: usize,
     variables: u32,
-    asked: u32,
-    start: u32,
     b: u32,
     q: u32,
     depth: usize,
@@ -403,7 +392,7 @@ fn close(
     table: &mut [u32],
     work: &[u32],
 )
-    requires { ⌜ CloseReady n variables asked start b q depth (outcome .0) (now table) (now work) ⌝ }
+    requires { ⌜ CloseReady n variables b q depth (outcome .0) (now table) (now work) ⌝ }
     ensures { λ _. ⌜ Closes (cells variables n) (outcome .0) (now (table .entry)) (now (table .exit)) ⌝ }
 {
     let mut a = b;
@@ -447,8 +436,6 @@ fn settled(cell: Cell, count: u32) -> Answer
 fn close_all(
     n: usize,
     variables: u32,
-    variable: u32,
-    position: u32,
     b: u32,
     q: u32,
     depth: usize,
@@ -456,22 +443,11 @@ fn close_all(
     table: &mut [u32],
     work: &[u32],
 ) -> u32
-    requires { ⌜ CloseReady n variables variable position b q depth (outcome .0) (now table) (now work) ⌝ }
+    requires { ⌜ CloseReady n variables b q depth (outcome .0) (now table) (now work) ⌝ }
     ensures closes { λ r. ⌜ Closes (cells variables n) (outcome .0) (now (table .entry)) (now (table .exit)) ⌝ }
     ensures counts { λ r. ⌜ r ≡ decided (take (cells variables n) (now (table .exit))) ⌝ }
 {
-    close(
-        n,
-        variables,
-        variable,
-        position,
-        b,
-        q,
-        depth,
-        outcome,
-        table,
-        work,
-    );
+    close(n, variables, b, q, depth, outcome, table, work);
     count_decided(table, variables as usize * (n + 1))
 }
 
@@ -484,64 +460,23 @@ fn open_asked(n: usize, variables: u32, variable: u32, position: u32, table: &mu
     Cell::OPEN.store(table, cell_number(n, variable, position));
 }
 
-// Closes what the walk left open, and answers; asked at place is the asked pair.
-fn finish(
-    n: usize,
-    variables: u32,
-    asked: u32,
-    place: u32,
-    end: Walk,
-    table: &mut [u32],
-    work: &[u32],
-) -> Answer
-    requires { ⌜ FinishReady n variables asked place (now table) (now work) end ⌝ }
+// Closes what the walk left open, and answers.
+fn finish(n: usize, variables: u32, end: Walk, table: &mut [u32], work: &[u32]) -> Answer
+    requires { ⌜ FinishReady n variables (now table) (now work) end ⌝ }
     ensures { λ r. ⌜ Finishes n variables end (now (table .entry)) (now (table .exit)) r ⌝ }
 {
     match end {
         Walk::Settled(cell) => settled(cell, count_decided(table, variables as usize * (n + 1))),
         Walk::Loop(b, q, a, p, depth) => {
-            let count = close_all(
-                n,
-                variables,
-                asked,
-                place,
-                a,
-                p,
-                depth,
-                Cell::LOOP,
-                table,
-                work,
-            );
+            let count = close_all(n, variables, a, p, depth, Cell::LOOP, table, work);
             Answer::Loop(b, q, count)
         }
         Walk::Missing(a, p, depth) => {
-            let count = close_all(
-                n,
-                variables,
-                asked,
-                place,
-                a,
-                p,
-                depth,
-                Cell::MISSING,
-                table,
-                work,
-            );
+            let count = close_all(n, variables, a, p, depth, Cell::MISSING, table, work);
             Answer::Missing(a, p, count)
         }
         Walk::End(a, p, depth) => {
-            let count = close_all(
-                n,
-                variables,
-                asked,
-                place,
-                a,
-                p,
-                depth,
-                Cell::END,
-                table,
-                work,
-            );
+            let count = close_all(n, variables, a, p, depth, Cell::END, table, work);
             Answer::End(a, p, count)
         }
     }
@@ -562,7 +497,7 @@ fn ask(
 {
     open_asked(input.len(), variables, variable, position, table);
     let end = walk_from(rules, input, variable, position, variables, table, work);
-    finish(input.len(), variables, variable, position, end, table, work)
+    finish(input.len(), variables, end, table, work)
 }
 
 // Refusal 10: the table or the work slice has fewer numbers than there are cells.

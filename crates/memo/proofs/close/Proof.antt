@@ -4,17 +4,16 @@ use native.Mathlib.Omega.{arith}
 use lib.ListN.{length, set, length-set}
 use Rattle.calls.proofs.Links.{view}
 use Rattle.calls.proofs.Table.{weight}
-use Rattle.schema.specs.Derivation.{_at_}
 use Rattle.schema.specs.Table.{cells}
 use Rattle.memo.proofs.Closing.{openOr, Closing, begins, top-within, top-in, close-falls, closes, goes-on}
 use Rattle.memo.proofs.close.Statement.{statement}
 use Rattle.memo.proofs.close.Tie as tie
 
 abbrev Inv-loop : tie.InvT-loop
-Inv-loop n variables asked start b q depth outcome table₀ work a₀ p₀ left₀ table a p left = Closing n variables (asked at start) (outcome .0) table₀ table work a p left
+Inv-loop n variables b q depth outcome table₀ work a₀ p₀ left₀ table a p left = Closing n variables (outcome .0) table₀ table work a p left
 
 abbrev μ-loop : tie.MeasureT-loop
-μ-loop n variables asked start b q depth outcome table₀ work a₀ p₀ left₀ table a p left = weight (view openOr table) (cells variables n)
+μ-loop n variables b q depth outcome table₀ work a₀ p₀ left₀ table a p left = weight (view openOr table) (cells variables n)
 
 loop-holds : tie.Need-loop-holds Inv-loop μ-loop
 loop-holds c = begins (c .before .before .pre)

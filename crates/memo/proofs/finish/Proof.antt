@@ -15,7 +15,7 @@ add-count-decided : tie.Need-add-count-decided
 add-count-decided c =
     let st = c .before .before .before .before .before .before in
     let a = st .args in
-    let r = subst (FinishReady (a .n) (a .variables) (a .asked) (a .place) (a .table .now) (a .work .now)) (c .before .before .end .given .1) (st .pre) in
+    let r = subst (FinishReady (a .n) (a .variables) (a .table .now) (a .work .now)) (c .before .before .end .given .1) (st .pre) in
     let s = r .short in
     omega arith
 
@@ -23,14 +23,14 @@ mul-count-decided : tie.Need-mul-count-decided
 mul-count-decided c =
     let st = c .before .before .before .before .before .before in
     let a = st .args in
-    let r = subst (FinishReady (a .n) (a .variables) (a .asked) (a .place) (a .table .now) (a .work .now)) (c .before .before .end .given .1) (st .pre) in
+    let r = subst (FinishReady (a .n) (a .variables) (a .table .now) (a .work .now)) (c .before .before .end .given .1) (st .pre) in
     omega (arith, cells-small (a .variables) (a .n) (r .few) (r .short))
 
 count-decided-requires : tie.Need-count-decided-requires
 count-decided-requires c κs =
     let st = c .before .before .before .before .before .before in
     let a = st .args in
-    let r = subst (FinishReady (a .n) (a .variables) (a .asked) (a .place) (a .table .now) (a .work .now)) (c .before .before .end .given .1) (st .pre) in
+    let r = subst (FinishReady (a .n) (a .variables) (a .table .now) (a .work .now)) (c .before .before .end .given .1) (st .pre) in
     let m = r .room in
     (omega arith, cells-small (a .variables) (a .n) (r .few) (r .short))
 
@@ -38,7 +38,7 @@ settled-requires : tie.Need-settled-requires
 settled-requires c κs =
     let st = c .before .before .before .before .before .before .before in
     let a = st .args in
-    let r = subst (FinishReady (a .n) (a .variables) (a .asked) (a .place) (a .table .now) (a .work .now)) (c .before .before .before .end .given .1) (st .pre) in
+    let r = subst (FinishReady (a .n) (a .variables) (a .table .now) (a .work .now)) (c .before .before .before .end .given .1) (st .pre) in
     r .code-is
 
 enum-known-end-2 : tie.Need-enum-known-end-2
@@ -48,7 +48,7 @@ close-all-requires : tie.Need-close-all-requires
 close-all-requires c κs =
     let st = c .before .before .before .before .before .before in
     let a = st .args in
-    let r = subst (FinishReady (a .n) (a .variables) (a .asked) (a .place) (a .table .now) (a .work .now)) (c .before .before .end2 .given .1) (st .pre) in
+    let r = subst (FinishReady (a .n) (a .variables) (a .table .now) (a .work .now)) (c .before .before .end2 .given .1) (st .pre) in
     r
 
 enum-known-end-3 : tie.Need-enum-known-end-3
@@ -58,7 +58,7 @@ close-all-requires-2 : tie.Need-close-all-requires-2
 close-all-requires-2 c κs =
     let st = c .before .before .before .before .before .before in
     let a = st .args in
-    let r = subst (FinishReady (a .n) (a .variables) (a .asked) (a .place) (a .table .now) (a .work .now)) (c .before .before .end3 .given .1) (st .pre) in
+    let r = subst (FinishReady (a .n) (a .variables) (a .table .now) (a .work .now)) (c .before .before .end3 .given .1) (st .pre) in
     r
 
 enum-known-end-4 : tie.Need-enum-known-end-4
@@ -68,7 +68,7 @@ close-all-requires-3 : tie.Need-close-all-requires-3
 close-all-requires-3 c κs =
     let st = c .before .before .before .before .before .before in
     let a = st .args in
-    let r = subst (FinishReady (a .n) (a .variables) (a .asked) (a .place) (a .table .now) (a .work .now)) (c .before .before .end4 .given .1) (st .pre) in
+    let r = subst (FinishReady (a .n) (a .variables) (a .table .now) (a .work .now)) (c .before .before .end4 .given .1) (st .pre) in
     r
 
 same-length : tie.Need-same-length
@@ -78,7 +78,7 @@ returns : tie.Need-returns
 returns c =
     let st = c .before .before .before .before .before .before .before .before in
     let a = st .args in
-    let r = subst (FinishReady (a .n) (a .variables) (a .asked) (a .place) (a .table .now) (a .work .now)) (c .before .before .before .before .end .given .1) (st .pre) in
+    let r = subst (FinishReady (a .n) (a .variables) (a .table .now) (a .work .now)) (c .before .before .before .before .end .given .1) (st .pre) in
     finishes (a .n) (a .variables) _ _ _ (walk.Settled (c .before .before .before .before .end .given .0 .0)) (c .before .before .before .before .end .given .1) (none-closes (r .no-open)) (c .settled .ensures) (c .before .count-decided .ensures)
 
 same-length-2 : tie.Need-same-length-2

@@ -1,29 +1,45 @@
-use mathlib.Core.Path.{refl}
-use Rattle.schema.specs.Derivation.{_at_, missing, end}
-use Rattle.memo.specs.Walk.{before}
+use mathlib.Core.Path.{refl, sym, ap, _∙_}
+use native.Mathlib.Omega.{arith}
+use lib.ListN.{length}
+use Rattle.grammar.specs.Words.{ruleIn}
+use Rattle.schema.specs.Act.{told}
+use Rattle.schema.specs.Derivation.{success, failure, missing, end}
 use Rattle.memo.specs.declared.Walk.the-variants as walk
-use Rattle.memo.proofs.Stepping.{leaf-ends, stuck-first, ends-from}
+use Rattle.memo.proofs.Looking.{failure-settled, leaf-end}
+use Rattle.memo.proofs.Stepping.{leaf-ends, stuck-first, asked-bounds}
 use borrow.Author.Needs.{needs}
 use Rattle.memo.proofs.walk_from.Statement.{statement}
 use Rattle.memo.proofs.walk_from.Tie as tie
 
-settle-leaf-requires : tie.Need-settle-leaf-requires
-settle-leaf-requires c κs = search needs
-
-enum-known-cell : tie.Need-enum-known-cell
-enum-known-cell c = search needs
+act-at-requires : tie.Need-act-at-requires
+act-at-requires c κs = search needs
 
 enum-known-b : tie.Need-enum-known-b
 enum-known-b c = search needs
 
 walk-on-requires : tie.Need-walk-on-requires
-walk-on-requires c κs =
-    let a = c .before .before .before .before .before .before .before .before .before .before .before .before .args in
-    let f = rw (c .before .before .before .b .given .1) at (c .before .before .before .before .before .before .before .settle-leaf .ensures) in
-    (rw (f .3) (c .before .before .before .before .before .before .before .before .before .before .before .before .pre), (f .0, f .1, f .2))
+walk-on-requires c κs = (c .before .before .before .before .before .before .before .before .before .pre, (_, _, sym (c .before .before .before .before .before .act-at .ensures) ∙ ap told (c .before .before .before .b .given .1)))
+
+enum-known-end : tie.Need-enum-known-end
+enum-known-end c = search needs
+
+success-requires : tie.Need-success-requires
+success-requires c κs =
+    let a = c .before .before .before .before .before .before .before .args in
+    let r = c .before .before .before .before .before .before .before .pre in
+    let e = sym (c .before .before .before .act-at .ensures) ∙ ap told (c .before .end .given .1) in
+    let q = leaf-end (ruleIn (a .rules .now)) (a .input .now) (a .variable) (a .position) _ (r .within .place) e in
+    let w = r .walkable .short in
+    omega arith
+
+settle-asked-requires : tie.Need-settle-asked-requires
+settle-asked-requires c κs = asked-bounds (c .before .before .before .before .before .before .before .before .before .pre)
 
 enum-told : tie.Need-enum-told
 enum-told c = search needs
+
+settle-asked-requires-2 : tie.Need-settle-asked-requires-2
+settle-asked-requires-2 c κs = asked-bounds (c .before .before .before .before .before .before .before .pre)
 
 enum-told-2 : tie.Need-enum-told-2
 enum-told-2 c = search needs
@@ -34,68 +50,63 @@ enum-told-3 c = search needs
 same-length : tie.Need-same-length
 same-length c = search needs
 
-returns : tie.Need-returns
-returns c =
-    let f = rw (c .before .cell .given .1) at (c .before .before .before .before .before .settle-leaf .ensures) in
-    rw (f .3) (leaf-ends (c .before .before .before .before .before .before .before .before .before .before .pre) _ (f .0) (f .1) (f .2))
-
 same-length-2 : tie.Need-same-length-2
 same-length-2 c = search needs
+
+returns : tie.Need-returns
+returns c = search needs
 
 same-length-3 : tie.Need-same-length-3
 same-length-3 c = search needs
 
 returns-2 : tie.Need-returns-2
 returns-2 c =
-    let a = c .before .before .before .before .before .before .before .before .before .before .before .before .before .before .before .before .before .args in
-    let f = rw (c .before .before .before .before .before .before .before .before .b .given .1) at (c .before .before .before .before .before .before .before .before .before .before .before .before .settle-leaf .ensures) in
-    ends-from _ _ (f .3) (c .before .before .before .before .walk-on .ensures)
+    let a = c .before .before .before .before .before .before .before .before .before .before .before .before .args in
+    let r = c .before .before .before .before .before .before .before .before .before .before .before .before .pre in
+    let e = sym (c .before .before .before .before .before .before .before .before .act-at .ensures) ∙ ap told (c .before .before .before .before .before .before .end .given .1) in
+    let q = leaf-end (ruleIn (a .rules .now)) (a .input .now) (a .variable) (a .position) _ (r .within .place) e in
+    rw (c .before .before .settle-asked .ensures .0, c .before .before .settle-asked .ensures .1) (leaf-ends r (c .before .before .before .before .success .result) (success (c .before .before .before .before .before .before .end .given .0 .0)) (record { code-is = c .before .before .before .before .success .ensures; ends = q }) e)
 
 same-length-4 : tie.Need-same-length-4
 same-length-4 c = search needs
 
 returns-3 : tie.Need-returns-3
 returns-3 c =
-    let f = rw (c .enum-told .given .1) at (c .before .before .before .before .settle-leaf .ensures) in
-    absurd f
-
-same-length-5 : tie.Need-same-length-5
-same-length-5 c = search needs
+    let a = c .before .before .before .before .before .before .before .before .before .before .args in
+    let r = c .before .before .before .before .before .before .before .before .before .before .pre in
+    let e = sym (c .before .before .before .before .before .before .act-at .ensures) ∙ ap told (c .before .before .before .before .enum-told .given .1) in
+    rw (c .before .before .settle-asked2 .ensures .0, c .before .before .settle-asked2 .ensures .1) (leaf-ends r _ failure (failure-settled (length (a .input .now)) 1 refl) e)
 
 returns-4 : tie.Need-returns-4
 returns-4 c =
-    let a = c .before .before .before .before .before .before .before .before .before .args in
-    let f = rw (c .enum-told2 .given .1) at (c .before .before .before .before .settle-leaf .ensures) in
-    rw (f .1) (stuck-first (c .before .before .before .before .before .before .before .before .before .pre) missing (f .0) (walk.Missing (a .variable) (a .position) 0) refl refl refl (λ opens u. u) tt)
-
-same-length-6 : tie.Need-same-length-6
-same-length-6 c = search needs
+    let a = c .before .before .before .before .before .before .args in
+    stuck-first (c .before .before .before .before .before .before .pre) missing (sym (c .before .before .act-at .ensures) ∙ ap told (c .enum-told2 .given .1)) (walk.Missing (a .variable) (a .position) 0) refl refl refl (λ opens u. u) tt
 
 returns-5 : tie.Need-returns-5
 returns-5 c =
-    let a = c .before .before .before .before .before .before .before .before .before .args in
-    let f = rw (c .enum-told3 .given .1) at (c .before .before .before .before .settle-leaf .ensures) in
-    rw (f .1) (stuck-first (c .before .before .before .before .before .before .before .before .before .pre) end (f .0) (walk.End (a .variable) (a .position) 0) refl refl refl (λ opens u. u) tt)
+    let a = c .before .before .before .before .before .before .args in
+    stuck-first (c .before .before .before .before .before .before .pre) end (sym (c .before .before .act-at .ensures) ∙ ap told (c .enum-told3 .given .1)) (walk.End (a .variable) (a .position) 0) refl refl refl (λ opens u. u) tt
 
 pub walk-from-spec : {M : Type 1} → statement M
 walk-from-spec =
     tie.close
     (tie.spec
-    settle-leaf-requires
-    enum-known-cell
+    act-at-requires
     enum-known-b
     walk-on-requires
+    enum-known-end
+    success-requires
+    settle-asked-requires
     enum-told
+    settle-asked-requires-2
     enum-told-2
     enum-told-3
     same-length
-    returns
     same-length-2
+    returns
     same-length-3
     returns-2
     same-length-4
     returns-3
-    same-length-5
     returns-4
-    same-length-6
     returns-5)
