@@ -1,0 +1,502 @@
+// Runs the requests of questions.txt and prints what the calls answer. The files are made by tests/longer/make.py.
+//
+//     sheets.txt     rule sheets, one after the other
+//     entries        entries, one after the other, of any bytes
+//     questions.txt  a request a line: nine fields of 8 columns and byte 10
+//
+// The fields of a request: where its sheet starts in sheets.txt, the sheet's length, where its entry starts in entries, the entry's length,
+// the variable, the place, the task, and two numbers x and y.
+//
+//     task 0, question  a table of x numbers and a work slice of y numbers are lent
+//     task 1, machine   the budget is x, and a slice of y numbers is lent for the frames
+//     task 2, reading   a table and a work slice of x numbers and an output of y bytes are lent; what is written is then checked
+//     task 3, damage    a reading is written, its byte at x is made y, and it is checked
+//
+// An answer is a line of seven fields of 8 columns and byte 10. The first is the number of the request's line, the second is
+//
+//     0, question  code, named variable or refusal number, end or named place or refused line, count of cells, sum of the lent table
+//     1, machine   code, refusal number, end or refused line, moves, 0
+//     2, writer    code, named variable or refusal number, end or named place or refused line, lines, sum of the lent output
+//     3, checker   code, refusal number, end or refused line, lines, 0
+//     4, fault     the request's line is malformed or reaches out of its files or slices; the rest is 0
+//     5, end       the number of bytes read of sheets.txt, entries and questions.txt, and two zeros
+//
+// The codes: 0 success, 1 failure, 2 loop, 3 missing, 4 end, 6 spent, 7 no frame, 9 refused. Table and output are filled before each call,
+// so that their sums also show what a call must leave unchanged.
+ghost use Prim.Native.Nat.{_<_, _≤_};
+ghost use Rattle.io.specs.Counts.{Counts};
+use backtrack::Ending;
+use checker::Claim;
+use columns::Cursor;
+use columns::Field;
+use columns::write_field;
+use libc::STDOUT_FILENO;
+use memo::Answer;
+
+// What stands in a table and in an output before a call.
+const UNTOUCHED_NUMBER: u32 = 77777;
+
+const UNTOUCHED_BYTE: u8 = 42;
+
+// A sum is below this number.
+const MODULUS: u64 = 99999989;
+
+// What is asked of a sheet and an entry.
+struct Request {
+    variable: u32,
+    position: u32,
+    task: u32,
+    x: u32,
+    y: u32,
+}
+
+// Four numbers of an answer: code, variable or refusal number, place or line, count.
+struct Four(u32, u32, u32, u32);
+
+fn print_field(x: u32) {
+    let mut field = [0u8; 8];
+    write_field(&mut field, x);
+    io::write_all(STDOUT_FILENO, &field);
+}
+
+fn print_answer(number: u32, task: u32, four: Four, sum: u32) {
+    print_field(number);
+    print_field(task);
+    print_field(four.0);
+    print_field(four.1);
+    print_field(four.2);
+    print_field(four.3);
+    print_field(sum);
+    io::write_all(STDOUT_FILENO, &[b'\n']);
+}
+
+fn print_fault(number: u32) {
+    print_answer(number, 4, Four(0, 0, 0, 0), 0);
+}
+
+// The sum of one more number: each number counts by its place.
+fn summed(sum: u64, x: u32) -> u64
+    requires { ⌜ sum < 99999989 ⌝ }
+    ensures { λ r. ⌜ r < 99999989 ⌝ }
+{
+    (257 * sum + x as u64) % MODULUS
+}
+
+fn wide(x: u8) -> u32 {
+    x as u32
+}
+
+fn sum_of_numbers(numbers: &[u32]) -> u32 {
+    let mut sum: u64 = 0;
+    let mut i: usize = 0;
+    while i < numbers.len() {
+        sum = summed(sum, numbers[i]);
+        i += 1;
+    }
+    sum as u32
+}
+
+fn sum_of_bytes(bytes: &[u8]) -> u32 {
+    let mut sum: u64 = 0;
+    let mut i: usize = 0;
+    while i < bytes.len() {
+        sum = summed(sum, wide(bytes[i]));
+        i += 1;
+    }
+    sum as u32
+}
+
+fn fill_numbers(numbers: &mut [u32]) {
+    let mut i: usize = 0;
+    while i < numbers.len() {
+        numbers[i] = UNTOUCHED_NUMBER;
+        i += 1;
+    }
+}
+
+fn fill_bytes(bytes: &mut [u8]) {
+    let mut i: usize = 0;
+    while i < bytes.len() {
+        bytes[i] = UNTOUCHED_BYTE;
+        i += 1;
+    }
+}
+
+fn numbers_of_answer(answer: Answer) -> Four {
+    match answer {
+        Answer::Success(end, count) => Four(0, 0, end, count),
+        Answer::Failure(count) => Four(1, 0, 0, count),
+        Answer::Loop(variable, position, count) => Four(2, variable, position, count),
+        Answer::Missing(variable, position, count) => Four(3, variable, position, count),
+        Answer::End(variable, position, count) => Four(4, variable, position, count),
+        Answer::Refused(number, line) => Four(9, number, line, 0),
+    }
+}
+
+fn numbers_of_ending(ending: Ending) -> Four {
+    match ending {
+        Ending::Success(end, moves) => Four(0, 0, end, moves),
+        Ending::Failure(moves) => Four(1, 0, 0, moves),
+        Ending::Missing(moves) => Four(3, 0, 0, moves),
+        Ending::End(moves) => Four(4, 0, 0, moves),
+        Ending::Spent(moves) => Four(6, 0, 0, moves),
+        Ending::NoFrame(moves) => Four(7, 0, 0, moves),
+        Ending::Refused(number, line) => Four(9, number, line, 0),
+    }
+}
+
+fn numbers_of_claim(claim: Claim, lines: u32) -> Four {
+    match claim {
+        Claim::Success(end) => Four(0, 0, end, lines),
+        Claim::Failure(end) => Four(1, 0, end, lines),
+        Claim::Refused(number, line) => Four(9, number, low_digits(line), lines),
+    }
+}
+
+// The last eight digits of a number.
+fn low_digits(x: usize) -> u32 {
+    (x % 100000000) as u32
+}
+
+// Task 0, with the lent slices.
+fn question(
+    number: u32,
+    sheet: &[u8],
+    entry: &[u8],
+    r: Request,
+    table: &mut [u32],
+    work: &mut [u32],
+) {
+    fill_numbers(table);
+    let answer = memo::question(sheet, entry, r.variable, r.position, table, work);
+    print_answer(number, 0, numbers_of_answer(answer), sum_of_numbers(table));
+}
+
+// Task 0.
+fn run_question(
+    number: u32,
+    sheet: &[u8],
+    entry: &[u8],
+    r: Request,
+    table: &mut [u32],
+    work: &mut [u32],
+) {
+    let x = r.x as usize;
+    let y = r.y as usize;
+    if table.len() < x {
+        return print_fault(number);
+    }
+    if work.len() < y {
+        return print_fault(number);
+    }
+    question(number, sheet, entry, r, &mut table[0..x], &mut work[0..y]);
+}
+
+// Task 1.
+fn run_machine(number: u32, sheet: &[u8], entry: &[u8], r: Request, frames: &mut [u32]) {
+    let y = r.y as usize;
+    if frames.len() < y {
+        return print_fault(number);
+    }
+    let ending = backtrack::run(sheet, entry, r.variable, r.position, &mut frames[0..y], r.x);
+    print_answer(number, 1, numbers_of_ending(ending), 0);
+}
+
+// Checks the first lines of an output as a reading.
+fn check(number: u32, sheet: &[u8], entry: &[u8], r: Request, out: &[u8], lines: u32) {
+    let end = 49 * lines as usize;
+    if out.len() < end {
+        return print_fault(number);
+    }
+    let claim = checker::check(sheet, entry, r.variable, r.position, &out[0..end]);
+    print_answer(number, 3, numbers_of_claim(claim, lines), 0);
+}
+
+// Writes a reading; the count of its lines.
+fn write(
+    number: u32,
+    sheet: &[u8],
+    entry: &[u8],
+    r: Request,
+    table: &mut [u32],
+    work: &mut [u32],
+    out: &mut [u8],
+) -> u32 {
+    fill_bytes(out);
+    let written = memo::writer::write(sheet, entry, r.variable, r.position, table, work, out);
+    let answer = written.answer;
+    let four = numbers_of_answer(answer);
+    print_answer(
+        number,
+        2,
+        Four(four.0, four.1, four.2, written.lines),
+        sum_of_bytes(out),
+    );
+    written.lines
+}
+
+// Task 2, with the lent slices.
+fn reading(
+    number: u32,
+    sheet: &[u8],
+    entry: &[u8],
+    r: Request,
+    table: &mut [u32],
+    work: &mut [u32],
+    out: &mut [u8],
+) {
+    let lines = write(number, sheet, entry, r, table, work, out);
+    check(number, sheet, entry, r, out, lines);
+}
+
+// Task 2.
+fn run_reading(
+    number: u32,
+    sheet: &[u8],
+    entry: &[u8],
+    r: Request,
+    table: &mut [u32],
+    work: &mut [u32],
+    out: &mut [u8],
+) {
+    let x = r.x as usize;
+    let y = r.y as usize;
+    if table.len() < x {
+        return print_fault(number);
+    }
+    if work.len() < x {
+        return print_fault(number);
+    }
+    if out.len() < y {
+        return print_fault(number);
+    }
+    reading(
+        number,
+        sheet,
+        entry,
+        r,
+        &mut table[0..x],
+        &mut work[0..x],
+        &mut out[0..y],
+    );
+}
+
+// Task 3.
+fn run_damage(
+    number: u32,
+    sheet: &[u8],
+    entry: &[u8],
+    r: Request,
+    table: &mut [u32],
+    work: &mut [u32],
+    out: &mut [u8],
+) {
+    let lines = write(number, sheet, entry, r, table, work, out);
+    let x = r.x as usize;
+    if out.len() <= x {
+        return print_fault(number);
+    }
+    if 255 < r.y {
+        return print_fault(number);
+    }
+    out[x] = r.y as u8;
+    check(number, sheet, entry, r, out, lines);
+}
+
+// Runs a request on its sheet and its entry.
+fn run(
+    number: u32,
+    sheet: &[u8],
+    entry: &[u8],
+    r: Request,
+    table: &mut [u32],
+    work: &mut [u32],
+    out: &mut [u8],
+) {
+    let task = r.task;
+    match task {
+        0 => run_question(number, sheet, entry, r, table, work),
+        1 => run_machine(number, sheet, entry, r, work),
+        2 => run_reading(number, sheet, entry, r, table, work, out),
+        3 => run_damage(number, sheet, entry, r, table, work, out),
+        _ => print_fault(number),
+    }
+}
+
+// The nine numbers of a line; false where the line is malformed.
+fn read_numbers(line: &[u8], numbers: &mut [u32; 9]) -> bool {
+    if line.len() != 73 {
+        return false;
+    }
+    let mut i: usize = 0;
+    while i < 9 {
+        let cursor = Cursor { at: 8 * i };
+        let Field::Number(x, _) = cursor.eight(line) else {
+            return false;
+        };
+        numbers[i] = x;
+        i += 1;
+    }
+    line[72] == 10
+}
+
+fn size(x: u32) -> usize {
+    x as usize
+}
+
+// Takes the entry of a request, and runs it.
+fn run_on_sheet(
+    number: u32,
+    sheet: &[u8],
+    entries: &[u8],
+    numbers: &[u32; 9],
+    table: &mut [u32],
+    work: &mut [u32],
+    out: &mut [u8],
+) {
+    let start = size(numbers[2]);
+    let length = size(numbers[3]);
+    if entries.len() < length {
+        return print_fault(number);
+    }
+    if entries.len() - length < start {
+        return print_fault(number);
+    }
+    let end = start + length;
+    let r = Request {
+        variable: numbers[4],
+        position: numbers[5],
+        task: numbers[6],
+        x: numbers[7],
+        y: numbers[8],
+    };
+    run(number, sheet, &entries[start..end], r, table, work, out);
+}
+
+// Takes the sheet of a request, and runs it.
+fn run_numbers(
+    number: u32,
+    sheets: &[u8],
+    entries: &[u8],
+    numbers: &[u32; 9],
+    table: &mut [u32],
+    work: &mut [u32],
+    out: &mut [u8],
+) {
+    let start = size(numbers[0]);
+    let length = size(numbers[1]);
+    if sheets.len() < length {
+        return print_fault(number);
+    }
+    if sheets.len() - length < start {
+        return print_fault(number);
+    }
+    let end = start + length;
+    run_on_sheet(
+        number,
+        &sheets[start..end],
+        entries,
+        numbers,
+        table,
+        work,
+        out,
+    );
+}
+
+// Runs the request of a line.
+fn run_line(
+    number: u32,
+    line: &[u8],
+    sheets: &[u8],
+    entries: &[u8],
+    table: &mut [u32],
+    work: &mut [u32],
+    out: &mut [u8],
+) {
+    let mut numbers = [0u32; 9];
+    if !read_numbers(line, &mut numbers) {
+        return print_fault(number);
+    }
+    run_numbers(number, sheets, entries, &numbers, table, work, out);
+}
+
+// The end of the line that starts at a position: 73 bytes further, or the text's end.
+fn line_end(start: usize, length: usize) -> usize
+    requires { ⌜ start < length ⌝ }
+    ensures { λ r. ⌜ (start < r) × (r ≤ length) ⌝ }
+{
+    if length - start < 73 {
+        return length;
+    }
+    start + 73
+}
+
+// Runs the request of each line.
+fn run_lines(
+    questions: &[u8],
+    sheets: &[u8],
+    entries: &[u8],
+    table: &mut [u32],
+    work: &mut [u32],
+    out: &mut [u8],
+) {
+    let mut number: u32 = 0;
+    let mut at: usize = 0;
+    while at < questions.len() {
+        let end = line_end(at, questions.len());
+        number = number % 99999999 + 1;
+        run_line(
+            number,
+            &questions[at..end],
+            sheets,
+            entries,
+            table,
+            work,
+            out,
+        );
+        at = end;
+    }
+}
+
+// Runs all requests over slices of its own, and prints how many bytes were read of each file.
+fn run_all(questions: &[u8], sheets: &[u8], entries: &[u8]) {
+    let mut table = [0u32; 65536];
+    let mut work = [0u32; 65536];
+    let mut out = [0u8; 262144];
+    run_lines(questions, sheets, entries, &mut table, &mut work, &mut out);
+    let read = Four(
+        low_digits(sheets.len()),
+        low_digits(entries.len()),
+        low_digits(questions.len()),
+        0,
+    );
+    print_answer(0, 5, read, 0);
+}
+
+// The bytes of a file, as far as the buffer goes; none where it cannot be opened.
+fn load(name: &[u8], buffer: &mut [u8]) -> usize
+    ensures { λ r. ⌜ Counts r (now (buffer .exit)) ⌝ }
+{
+    let file = os::open_read(name);
+    if file < 0 {
+        return 0;
+    }
+    let count = io::read_full(file, buffer);
+    libc::close(file);
+    count
+}
+
+// A file that is longer than its buffer is cut, which the last line of the output shows.
+fn main() {
+    let mut sheets = [0u8; 262144];
+    let sheets_length = load(b"sheets.txt", &mut sheets);
+    let mut entries = [0u8; 262144];
+    let entries_length = load(b"entries", &mut entries);
+    let mut questions = [0u8; 262144];
+    let questions_length = load(b"questions.txt", &mut questions);
+    run_all(
+        &questions[..questions_length],
+        &sheets[..sheets_length],
+        &entries[..entries_length],
+    );
+}

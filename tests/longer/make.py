@@ -1,0 +1,427 @@
+#!/usr/bin/env python3
+"""Makes the data and the expected output of crates/test_questions, and SOURCES.txt beside this file.
+
+    python3 tests/longer/make.py --reference READER [--classes RANGES]
+
+READER is an implementation of document 01 in Python, reader.py, made apart from this repository. RANGES are the classes of the
+bytes, or a file with them, as 48-57:1,9:4 and so on; a byte in none has class 0. The default is document 01's. lua5.4 and lua-lpeg are
+installed from Debian where they are absent. It is run by hand; a second run writes the same bytes.
+
+What comes from where:
+  LPeg (judge.lua)  outcome and end of each question whose rules LPeg takes, and the named pair of missing and end. It refuses rules
+                    that may be left recursive. Each match is a process of its own with a limit of time, which ends this script.
+  reader.py         loops; outcome and end where LPeg refuses the rules or would take too many calls; counts, tables, refusals,
+                    the machine's runs, readings and what the checker says of them.
+Where both judge they must agree, or this script ends with an error. k and h, from which the machine's budgets and rooms are chosen, are
+computed by the definition. Nothing comes from the program under test. The layout of the files is described in
+crates/test_questions/src/main.rt.
+"""
+import argparse
+import collections
+import importlib.util
+import os
+import shutil
+import subprocess
+import sys
+import tempfile
+import threading
+
+import questions
+
+HERE = os.path.dirname(os.path.abspath(__file__))
+CRATE = os.path.join(HERE, "..", "..", "crates", "test_questions")
+
+CLASSES = "48-57:1,65-90:2,97-122:3,9:4,32:4,33-47:5,58-64:5,91-96:5,123-126:5,128-255:6"
+
+FILE_BYTES = 262144     # the program's buffers
+OUTPUT_BYTES = 262144
+NUMBERS = questions.CELLS
+UNTOUCHED_NUMBER, UNTOUCHED_BYTE = 77777, 42
+MODULUS = 99999989
+
+QUESTION, MACHINE, READING, DAMAGE = 0, 1, 2, 3                      # tasks of a request
+WRITER, CHECKER, END = 2, 3, 5                                       # kinds of answers beside the tasks
+CODES = {"success": 0, "failure": 1, "loop": 2, "missing": 3, "end": 4, "spent": 6, "no frame": 7}
+REFUSED = 9
+
+LPEG_CALLS = 3000000    # LPeg is asked where it takes at most so many calls
+LPEG_SECONDS = 120
+
+
+def stop(text): sys.exit("make.py: " + text)
+
+
+# ---------------------------------------------------------------- parameters
+
+def class_table(ranges):
+    """The class of each byte."""
+    table = [0] * 256
+    for item in ranges.split(","):
+        span, c = item.split(":")
+        first, last = (span.split("-") * 2)[:2]
+        for b in range(int(first), int(last) + 1): table[b] = int(c)
+    return table
+
+
+def read_ranges(text):
+    if os.path.exists(text): text = open(text).read()
+    return ",".join(text.replace(",", " ").split())
+
+
+def load_reference(path, classes):
+    """The module reader.py with other classes."""
+    spec = importlib.util.spec_from_file_location("reader", path)
+    module = importlib.util.module_from_spec(spec)
+    spec.loader.exec_module(module)
+    module.class_of = lambda b, order=0: classes[b]
+    return module
+
+
+def install():
+    """lua5.4 and LPeg from Debian, where they are absent."""
+    found = shutil.which("lua5.4") and subprocess.run(["lua5.4", "-e", 'require "lpeg"'], stderr=subprocess.DEVNULL).returncode == 0
+    if not found: subprocess.run(["apt-get", "install", "-y", "lua5.4", "lua-lpeg"], check=True)
+
+
+# ---------------------------------------------------------------- the judges
+
+class Judge:
+    """LPeg, in a process for each match."""
+
+    def __init__(self, ranges, folder):
+        self.ranges = ranges
+        self.sheet, self.entry = os.path.join(folder, "sheet"), os.path.join(folder, "entry")
+        self.accepted = {}
+
+    def run(self, q, place):
+        open(self.sheet, "wb").write(q.sheet)
+        open(self.entry, "wb").write(q.entry)
+        words = ["lua5.4", os.path.join(HERE, "judge.lua"), self.ranges, self.sheet, self.entry, str(q.variable), str(place)]
+        done = subprocess.run(words, capture_output=True, text=True, timeout=LPEG_SECONDS)
+        if done.returncode != 0: stop("judge.lua: " + done.stderr)
+        return done.stdout.split()
+
+    def accepts(self, q):
+        """Does LPeg take the rules from the asked variable on?"""
+        key = (q.sheet, q.variable)
+        if key not in self.accepted: self.accepted[key] = self.run(q, "-") == ["accepted"]
+        return self.accepted[key]
+
+    def answer(self, q):
+        """Outcome, end, named pair."""
+        outcome, *numbers = self.run(q, q.place)
+        numbers = [int(x) for x in numbers]
+        if outcome == "success": return outcome, numbers[0], None
+        return outcome, None, tuple(numbers) if numbers else None
+
+
+class Reference:
+    """reader.py, and what is computed from its definitions."""
+
+    def __init__(self, module): self.module = module
+
+    def eval(self, q): return self.module.Eval(self.module.read_sheet(q.sheet), q.entry)
+
+    def refused(self, result): return isinstance(result, self.module.Refusal)
+
+    def question(self, q):
+        table = [UNTOUCHED_NUMBER] * q.x
+        return self.module.question(q.sheet, q.entry, q.variable, q.place, table, [0] * q.y), table
+
+    def steps_and_height(self, q):
+        """k and h of a success or a failure."""
+        return self.eval(q).kh(q.variable, q.place)
+
+    def lpeg_calls(self, q):
+        """How many calls `A <- B C / !B D` takes without a table: B is called again where it fails, and where C fails."""
+        e, calls = self.eval(q), {}
+        for pair in e.postorder(q.variable, q.place):
+            called = e.called(*pair)
+            total = 1 + sum(calls[x] for x in called)
+            if len(called) == 2:
+                ended = e.out(*called[0]).kind == "success" and e.out(*called[1]).kind != "failure"
+                total += 0 if ended else calls[called[0]]
+            calls[pair] = total
+        return calls[(q.variable, q.place)]
+
+    def finite(self, q):
+        """The question is not refused, and its outcome is none that only the reference can give."""
+        found, _ = self.question(q)
+        return not self.refused(found) and found.outcome != "loop"
+
+
+# ---------------------------------------------------------------- files
+
+class Store:
+    """Pieces one after the other; a piece that stands there already is found again."""
+
+    def __init__(self): self.data = bytearray()
+
+    def place(self, piece):
+        at = self.data.find(piece)
+        if at < 0:
+            at = len(self.data)
+            self.data += piece
+        return at, len(piece)
+
+
+def line(*numbers):
+    out = "".join(f"{x:8}" for x in numbers)
+    if len(out) != 8 * len(numbers): stop(f"a number is too wide: {numbers}")
+    return out.encode() + b"\n"
+
+
+def summed(numbers):
+    total = 0
+    for x in numbers: total = (257 * total + x) % MODULUS
+    return total
+
+
+class Files:
+    """The files of the crate in the making."""
+
+    def __init__(self):
+        self.sheets, self.entries, self.requests, self.expected = Store(), Store(), [], []
+
+    def request(self, q, task, x, y):
+        """Adds a request; its number."""
+        self.requests.append(line(*self.sheets.place(q.sheet), *self.entries.place(q.entry), q.variable, q.place, task, x, y))
+        return len(self.requests)
+
+    def answer(self, *numbers): self.expected.append(line(*numbers))
+
+    def write(self):
+        data = os.path.join(CRATE, "data")
+        os.makedirs(data, exist_ok=True)
+        requests = b"".join(self.requests)
+        sizes = len(self.sheets.data), len(self.entries.data), len(requests)
+        if max(sizes) > FILE_BYTES: stop(f"a file is longer than the program's buffer: {sizes}")
+        self.answer(0, END, *sizes, 0, 0)
+        for path, content in (("data/sheets.txt", self.sheets.data), ("data/entries", self.entries.data),
+                              ("data/questions.txt", requests), ("stdout", b"".join(self.expected))):
+            with open(os.path.join(CRATE, path), "wb") as file: file.write(content)
+        return sizes
+
+
+# ---------------------------------------------------------------- expected answers
+
+class Maker:
+    def __init__(self, reference, judge):
+        self.reference, self.judge, self.files = reference, judge, Files()
+        self.sources, self.tally = [], collections.Counter()
+        self.machine_runs, self.readings, self.damages = [], [], []
+
+    def judged(self, q, found):
+        """Outcome, end, named pair, and who says so."""
+        mine = (found.outcome, found.end, found.named)
+        if not self.judge.accepts(q): return mine, "reader.py: LPeg refuses left recursion"
+        calls = self.reference.lpeg_calls(q)
+        if calls > LPEG_CALLS: return mine, "reader.py: LPeg would take over 3000000 calls"
+        theirs = self.judge.answer(q)
+        if theirs != mine: stop(f"LPeg says {theirs}, the reference {mine}: {q}")
+        return theirs, "LPeg"
+
+    def question(self, q):
+        found, table = self.reference.question(q)
+        number = self.files.request(q, QUESTION, q.x, q.y)
+        if self.reference.refused(found):
+            four, source, outcome = (REFUSED, found.number, found.line, 0), "reader.py: a refusal", "refused"
+        else:
+            (outcome, end, named), source = self.judged(q, found)
+            variable, place = named or (0, end or 0)
+            four = CODES[outcome], variable, place, found.count
+        self.files.answer(number, QUESTION, *four, summed(table))
+        self.note(number, q, outcome, source)
+        return outcome
+
+    def note(self, number, q, outcome, source):
+        self.tally[("group", q.group)] += 1
+        self.tally[("kind", q.group.split(":")[0])] += 1
+        self.tally[("outcome", outcome)] += 1
+        self.tally[("source", source)] += 1
+        self.tally[("outcome and judge", outcome + (", LPeg" if source == "LPeg" else ", reader.py"))] += 1
+        self.tally[("entry", "200 to 4096 bytes" if 200 <= len(q.entry) <= 4096 else "other")] += 1
+        v = questions.variables_of(q.sheet)
+        self.sources.append(f"{number:5} {v:4} {len(q.entry):5} {q.variable:8} {q.place:8}  {outcome:8} {source:48} {q.group}")
+
+    # The machine.
+
+    def run(self, q, budget, numbers):
+        """One run, with a slice of so many numbers for the frames."""
+        r = self.reference.module.machine(q.sheet, q.entry, q.variable, q.place, budget, numbers)
+        number = self.files.request(q, MACHINE, budget, numbers)
+        if self.reference.refused(r): four = REFUSED, r.number, r.line, 0
+        else: four = CODES[r.outcome], 0, r.end or 0, r.moves
+        self.files.answer(number, MACHINE, *four, 0)
+        self.tally[("machine", "refused" if self.reference.refused(r) else r.outcome)] += 1
+        return r
+
+    def runs_of_result(self, q, k, h):
+        """With 2k - 1 moves and h frames the machine answers, with less it does not."""
+        for budget in sorted({0, max(0, 2 * k - 2), 2 * k - 1, 9999999}):
+            r = self.run(q, budget, NUMBERS)
+            if (r.outcome == "spent") != (budget < 2 * k - 1): stop(f"2k - 1 is not the machine's number of moves: {q}")
+        for numbers in (3 * h - 3, 3 * h - 1, 3 * h):
+            r = self.run(q, 2 * k - 1, numbers)
+            if (r.outcome == "no frame") != (numbers < 3 * h): stop(f"h is not the machine's number of frames: {q}")
+        self.run(q, 2 * k - 2, 3 * h)
+
+    def runs_without_result(self, q):
+        for budget, numbers in ((0, NUMBERS), (1, NUMBERS), (1000, NUMBERS), (200000, NUMBERS), (200000, 0), (200000, 3), (200000, 60)):
+            self.run(q, budget, numbers)
+
+    def machine(self, q, outcome):
+        if outcome in ("success", "failure"): self.runs_of_result(q, *self.reference.steps_and_height(q))
+        else: self.runs_without_result(q)
+        self.tally[("tasks", "questions with machine runs")] += 1
+
+    # Readings.
+
+    def writer_answer(self, q, number, x, y):
+        """Writes a reading; its bytes and lines."""
+        out = bytearray([UNTOUCHED_BYTE]) * y
+        w = self.reference.module.write_reading(q.sheet, q.entry, q.variable, q.place, [0] * x, [0] * x, out)
+        if self.reference.refused(w): four, lines = (REFUSED, w.number, w.line, 0), 0
+        else:
+            variable, place = w.named or (0, w.end or 0)
+            four, lines = (CODES[w.outcome], variable, place, w.lines), w.lines
+        self.files.answer(number, WRITER, *four, summed(out))
+        return out, lines
+
+    def checker_answer(self, q, number, reading, lines):
+        c = self.reference.module.check_reading(q.sheet, q.entry, q.variable, q.place, bytes(reading))
+        if self.reference.refused(c): three = REFUSED, c.number, c.line
+        else: three = CODES[c.outcome], 0, c.end
+        self.files.answer(number, CHECKER, *three, lines, 0)
+        return c
+
+    def reading(self, q, x, y):
+        number = self.files.request(q, READING, x, y)
+        out, lines = self.writer_answer(q, number, x, y)
+        c = self.checker_answer(q, number, out[:49 * lines], lines)
+        passed = not self.reference.refused(c)
+        self.tally[("tasks", "readings that pass" if passed else "readings not written")] += 1
+
+    def damage(self, q, at, byte):
+        number = self.files.request(q, DAMAGE, at, byte)
+        out, lines = self.writer_answer(q, number, NUMBERS, OUTPUT_BYTES)
+        out[at] = byte
+        c = self.checker_answer(q, number, out[:49 * lines], lines)
+        said = f"refused with {c.number}" if self.reference.refused(c) else "passed"
+        self.tally[("damaged readings", said)] += 1
+
+
+# ---------------------------------------------------------------- choices
+
+def spread(items, count):
+    """About so many of the items, evenly."""
+    return items[::max(1, len(items) // count)][:count] if items else []
+
+
+def choose_machine(maker, asked):
+    """Questions for the machine: results of up to 20,000 steps, some of up to 200,000, and some without a result."""
+    small, large, without = [], [], []
+    for q, outcome in asked:
+        if outcome in ("success", "failure"):
+            k, h = maker.reference.steps_and_height(q)
+            if 3 * h <= NUMBERS and k <= 20000: small.append((q, outcome))
+            elif 3 * h <= NUMBERS and k <= 200000: large.append((q, outcome))
+        elif outcome != "refused": without.append((q, outcome))
+    return spread(small, 50) + spread(large, 6) + spread(without, 16) + [(asked[-3][0], "refused")]
+
+
+def cells_of(q): return questions.variables_of(q.sheet) * (len(q.entry) + 1)
+
+
+def run_readings(maker, asked):
+    fits = [(q, o) for q, o in asked if o != "refused" and 49 * cells_of(q) <= OUTPUT_BYTES]
+    results = [q for q, o in fits if o in ("success", "failure")]
+    for q in spread(results, 60): maker.reading(q, cells_of(q), 49 * cells_of(q))
+    for q in spread([q for q, o in fits if o not in ("success", "failure")], 10): maker.reading(q, NUMBERS, OUTPUT_BYTES)
+    for q in spread(results, 2): maker.reading(q, cells_of(q), 49 * cells_of(q) - 1)
+    rng = questions.generator("damage")
+    for i, q in enumerate(spread(results, 24)):
+        lines = maker.reference.question(q)[0].count
+        at = rng.randrange(49 * lines)
+        # Most often the last digit of a field is changed, so that the line is well formed.
+        if i % 4: at = at - at % 49 + 8 * rng.randrange(6) + 7
+        maker.damage(q, at, 48 + rng.randrange(10))
+
+
+def summary(maker, sizes, ranges):
+    out = [f"Questions: {len(maker.sources)}. Requests: {len(maker.files.requests)}. Classes: {ranges}",
+           f"Bytes of sheets.txt, entries, questions.txt: {sizes[0]}, {sizes[1]}, {sizes[2]}.", ""]
+    for kind in ("kind", "outcome", "source", "outcome and judge", "entry", "tasks", "machine", "damaged readings"):
+        for (k, name), count in sorted(maker.tally.items()):
+            if k == kind: out.append(f"{kind:18} {count:5}  {name}")
+        out.append("")
+    return "\n".join(out)
+
+
+HEAD = """Where the expected answers of crates/test_questions come from; written by make.py.
+
+A line for each question: its line in questions.txt, V, the entry's length, variable, place, outcome, the judge of outcome and end, and
+its group. Judged by LPeg: outcome, end and the pair of missing and end are LPeg's, and reader.py agrees. The count of cells and the
+table's sum are always reader.py's, and so are all answers of the machine, the writer and the checker.
+
+"""
+
+
+def write_sources(maker, text):
+    head = f"{'line':>5} {'V':>4} {'n':>5} {'variable':>8} {'place':>8}  {'outcome':8} {'judge':48} group"
+    with open(os.path.join(HERE, "SOURCES.txt"), "w") as file:
+        file.write(HEAD + text + "\n" + "\n".join([head] + maker.sources) + "\n")
+
+
+def check_numbers(maker):
+    """What the test has to have at least."""
+    count = len(maker.sources)
+    if not 300 <= count <= 600: stop(f"{count} questions")
+    for outcome in ("success", "failure", "loop", "missing", "end", "refused"):
+        if maker.tally[("outcome", outcome)] < 20: stop(f"too few questions with outcome {outcome}")
+    if 2 * maker.tally[("source", "LPeg")] <= count: stop("LPeg judges less than half of the questions")
+    if maker.tally[("tasks", "questions with machine runs")] < 40: stop("too few runs of the machine")
+    if maker.tally[("tasks", "readings that pass")] < 40: stop("too few readings")
+
+
+def make(options):
+    ranges = read_ranges(options.classes)
+    classes = class_table(ranges)
+    install()
+    reference = Reference(load_reference(options.reference, classes))
+    with tempfile.TemporaryDirectory() as folder:
+        maker = Maker(reference, Judge(ranges, folder))
+        asked = []
+        for q in questions.all_questions(classes, lambda q: reference.lpeg_calls(q) <= LPEG_CALLS): asked.append((q, maker.question(q)))
+        for q, outcome in choose_machine(maker, asked): maker.machine(q, outcome)
+        run_readings(maker, asked)
+    text = summary(maker, maker.files.write(), ranges)
+    write_sources(maker, text)
+    print(text)
+    check_numbers(maker)
+
+
+def main():
+    parser = argparse.ArgumentParser(description=__doc__, formatter_class=argparse.RawDescriptionHelpFormatter)
+    parser.add_argument("--reference", required=True, help="path of reader.py")
+    parser.add_argument("--classes", default=CLASSES, help="ranges of bytes with their classes, or a file with them")
+    options = parser.parse_args()
+    failed = []
+
+    def work():
+        try: make(options)
+        except BaseException as error:
+            failed.append(error)
+            if not isinstance(error, SystemExit): sys.excepthook(*sys.exc_info())
+
+    # A thread, for its large stack: the reference calls itself as deep as the entry is long.
+    sys.setrecursionlimit(1000000)
+    threading.stack_size(512 * 1024 * 1024)
+    thread = threading.Thread(target=work)
+    thread.start()
+    thread.join()
+    if failed: sys.exit(failed[0].code if isinstance(failed[0], SystemExit) else 1)
+
+
+if __name__ == "__main__":
+    main()
