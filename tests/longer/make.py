@@ -37,7 +37,7 @@ FILE_BYTES = 262144     # the program's buffers
 OUTPUT_BYTES = 262144
 NUMBERS = questions.CELLS
 UNTOUCHED_NUMBER, UNTOUCHED_BYTE = 77777, 42
-MODULUS = 99999989
+MODULUS = 9999991
 
 QUESTION, MACHINE, READING, DAMAGE = 0, 1, 2, 3                      # tasks of a request
 WRITER, CHECKER, END = 2, 3, 5                                       # kinds of answers beside the tasks
@@ -97,7 +97,8 @@ class Judge:
         open(self.sheet, "wb").write(q.sheet)
         open(self.entry, "wb").write(q.entry)
         words = ["lua5.4", os.path.join(HERE, "judge.lua"), self.ranges, self.sheet, self.entry, str(q.variable), str(place)]
-        done = subprocess.run(words, capture_output=True, text=True, timeout=LPEG_SECONDS)
+        try: done = subprocess.run(words, capture_output=True, text=True, timeout=LPEG_SECONDS)
+        except subprocess.TimeoutExpired: stop(f"LPeg took over {LPEG_SECONDS} seconds: {q}")
         if done.returncode != 0: stop("judge.lua: " + done.stderr)
         return done.stdout.split()
 
@@ -143,11 +144,6 @@ class Reference:
                 total += 0 if ended else calls[called[0]]
             calls[pair] = total
         return calls[(q.variable, q.place)]
-
-    def finite(self, q):
-        """The question is not refused, and its outcome is none that only the reference can give."""
-        found, _ = self.question(q)
-        return not self.refused(found) and found.outcome != "loop"
 
 
 # ---------------------------------------------------------------- files
@@ -209,14 +205,13 @@ class Maker:
     def __init__(self, reference, judge):
         self.reference, self.judge, self.files = reference, judge, Files()
         self.sources, self.tally = [], collections.Counter()
-        self.machine_runs, self.readings, self.damages = [], [], []
 
     def judged(self, q, found):
         """Outcome, end, named pair, and who says so."""
         mine = (found.outcome, found.end, found.named)
         if not self.judge.accepts(q): return mine, "reader.py: LPeg refuses left recursion"
         calls = self.reference.lpeg_calls(q)
-        if calls > LPEG_CALLS: return mine, "reader.py: LPeg would take over 3000000 calls"
+        if calls > LPEG_CALLS: return mine, f"reader.py: LPeg would take over {LPEG_CALLS} calls"
         theirs = self.judge.answer(q)
         if theirs != mine: stop(f"LPeg says {theirs}, the reference {mine}: {q}")
         return theirs, "LPeg"
@@ -235,7 +230,6 @@ class Maker:
         return outcome
 
     def note(self, number, q, outcome, source):
-        self.tally[("group", q.group)] += 1
         self.tally[("kind", q.group.split(":")[0])] += 1
         self.tally[("outcome", outcome)] += 1
         self.tally[("source", source)] += 1
@@ -327,7 +321,7 @@ def choose_machine(maker, asked):
             if 3 * h <= NUMBERS and k <= 20000: small.append((q, outcome))
             elif 3 * h <= NUMBERS and k <= 200000: large.append((q, outcome))
         elif outcome != "refused": without.append((q, outcome))
-    return spread(small, 50) + spread(large, 6) + spread(without, 16) + [(asked[-3][0], "refused")]
+    return spread(small, 50) + spread(large, 6) + spread(without, 16)
 
 
 def cells_of(q): return questions.variables_of(q.sheet) * (len(q.entry) + 1)
@@ -392,8 +386,11 @@ def make(options):
     with tempfile.TemporaryDirectory() as folder:
         maker = Maker(reference, Judge(ranges, folder))
         asked = []
-        for q in questions.all_questions(classes, lambda q: reference.lpeg_calls(q) <= LPEG_CALLS): asked.append((q, maker.question(q)))
+        for q in questions.all_questions(classes, lambda q: reference.lpeg_calls(q) <= LPEG_CALLS):
+            asked.append((q, maker.question(q)))
         for q, outcome in choose_machine(maker, asked): maker.machine(q, outcome)
+        for q, outcome in asked:
+            if outcome == "refused": maker.run(q, 1000, NUMBERS)
         run_readings(maker, asked)
     text = summary(maker, maker.files.write(), ranges)
     write_sources(maker, text)

@@ -320,32 +320,39 @@ def random_leaf(rng, missing):
     return (kind,)
 
 
+def passed(sheet): return sheet.choice(sheet.any_but_marks(), sheet.byte(0))
+
+
 def driver(sheet, asked):
     """Start: at each place the asked variable, whatever its outcome, then one byte; a full stop ends it."""
-    one = sheet.choice(sheet.any_but_marks(), sheet.byte(0))
+    one = passed(sheet)
     sheet.rules[sheet.start] = (4, sheet.call(asked, one, one), sheet.start, sheet.byte("."))
+
+
+def random_leaves(rng, s, count, missing, nullable):
+    leaves = [s.new() for _ in range(count)]
+    for variable in leaves:
+        rule = random_leaf(rng, missing)
+        if rule: s.rules[variable] = rule
+        if rule == (0,): nullable.add(variable)
+    return leaves
 
 
 def ordered_sheet(rng, variables, layers, missing=0.0, driven=True):
     """A random sheet without left recursion: B and D lie in a higher layer, and so does C where B may take nothing."""
     s = Sheet()
-    s.names.pop("start")
-    if driven: driver(s, s.start)
+    if driven: passed(s), s.byte(".")
     room = variables - s.count - (1 if driven else 0)
-    leaves = max(3, room * 2 // 5)
-    nullable, above = set(), []
-    for _ in range(leaves):
-        rule, variable = random_leaf(rng, missing), s.new()
-        above.append(variable)
-        if rule: s.rules[variable] = rule
-        if rule == (0,): nullable.add(variable)
-    every = list(range(s.count - leaves + 1, s.count - leaves + room + 1))
+    every = list(range(s.count + 1, s.count + room + 1))
+    leaves, nullable = max(3, room * 2 // 5), set()
+    above = random_leaves(rng, s, leaves, missing, nullable)
     rest, left = room - leaves, layers
     while rest > 0:
         layer = [s.new() for _ in range(max(1, rest // left))]
         for variable in layer: random_call(rng, s, variable, above, every, nullable)
         above, rest, left = above + layer, rest - len(layer), max(1, left - 1)
-    for i in range(3): s.name(f"random {i}", above[-1 - i])
+    s.names = {f"random {i}": above[-1 - i] for i in range(3)}
+    s.random = every
     if driven: driver(s, above[-1])
     else: s.rules[s.start] = s.rules[above[-1]]
     return s
@@ -360,9 +367,9 @@ def random_call(rng, s, variable, above, every, nullable):
 
 
 def bent_sheet(rng, variables, layers):
-    """A sheet without left recursion of which one operand is changed, so that a loop may come in."""
+    """A sheet without left recursion of which two operands are changed, so that a loop may come in."""
     s = ordered_sheet(rng, variables, layers)
-    calls = [v for v in s.rules if s.rules[v][0] == 4 and v > s.start + 8]
+    calls = [v for v in s.random if s.rules[v][0] == 4]
     for _ in range(2):
         v, operand = rng.choice(calls), rng.choice([1, 3])
         rule = list(s.rules[v])

@@ -39,7 +39,7 @@ const UNTOUCHED_NUMBER: u32 = 77777;
 const UNTOUCHED_BYTE: u8 = 42;
 
 // A sum is below this number.
-const MODULUS: u64 = 99999989;
+const MODULUS: u64 = 9999991;
 
 // What is asked of a sheet and an entry.
 struct Request {
@@ -76,8 +76,8 @@ fn print_fault(number: u32) {
 
 // The sum of one more number: each number counts by its place.
 fn summed(sum: u64, x: u32) -> u64
-    requires { ⌜ sum < 99999989 ⌝ }
-    ensures { λ r. ⌜ r < 99999989 ⌝ }
+    requires { ⌜ sum < 9999991 ⌝ }
+    ensures { λ r. ⌜ r < 9999991 ⌝ }
 {
     (257 * sum + x as u64) % MODULUS
 }
@@ -486,17 +486,21 @@ fn load(name: &[u8], buffer: &mut [u8]) -> usize
     count
 }
 
+fn load_questions(sheets: &[u8], entries: &[u8]) {
+    let mut questions = [0u8; 262144];
+    let length = load(b"questions.txt", &mut questions);
+    run_all(&questions[..length], sheets, entries);
+}
+
+fn load_entries(sheets: &[u8]) {
+    let mut entries = [0u8; 262144];
+    let length = load(b"entries", &mut entries);
+    load_questions(sheets, &entries[..length]);
+}
+
 // A file that is longer than its buffer is cut, which the last line of the output shows.
 fn main() {
     let mut sheets = [0u8; 262144];
-    let sheets_length = load(b"sheets.txt", &mut sheets);
-    let mut entries = [0u8; 262144];
-    let entries_length = load(b"entries", &mut entries);
-    let mut questions = [0u8; 262144];
-    let questions_length = load(b"questions.txt", &mut questions);
-    run_all(
-        &questions[..questions_length],
-        &sheets[..sheets_length],
-        &entries[..entries_length],
-    );
+    let length = load(b"sheets.txt", &mut sheets);
+    load_entries(&sheets[..length]);
 }

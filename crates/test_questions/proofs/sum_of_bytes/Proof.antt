@@ -1,4 +1,3 @@
-use mathlib.Core.Path.{_≡_}
 use Prim.Native.Nat.{_≤_, _<_, _-_}
 use lib.ListN.{length}
 use borrow.Author.Needs.{needs}
@@ -10,7 +9,7 @@ use Rattle.test_questions.proofs.summed.Reads as summed-reads
 use Rattle.test_questions.proofs.wide.Reads as wide-reads
 
 abbrev Inv-loop : tie.InvT-loop
-Inv-loop bytes sum₀ i₀ sum i = (i ≤ length bytes) × (sum < 99999989)
+Inv-loop bytes sum₀ i₀ sum i = (i ≤ length bytes) × (sum < 9999991)
 
 abbrev μ-loop : tie.MeasureT-loop
 μ-loop bytes sum₀ i₀ sum i = length bytes - i

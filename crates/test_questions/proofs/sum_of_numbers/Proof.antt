@@ -1,4 +1,3 @@
-use mathlib.Core.Path.{_≡_}
 use Prim.Native.Nat.{_≤_, _<_, _-_}
 use lib.ListN.{length}
 use borrow.Author.Needs.{needs}
@@ -9,7 +8,7 @@ use Rattle.test_questions.proofs.sum_of_numbers.Lts as lts
 use Rattle.test_questions.proofs.summed.Reads as summed-reads
 
 abbrev Inv-loop : tie.InvT-loop
-Inv-loop numbers sum₀ i₀ sum i = (i ≤ length numbers) × (sum < 99999989)
+Inv-loop numbers sum₀ i₀ sum i = (i ≤ length numbers) × (sum < 9999991)
 
 abbrev μ-loop : tie.MeasureT-loop
 μ-loop numbers sum₀ i₀ sum i = length numbers - i
