@@ -16,12 +16,12 @@ use Rattle.schema.specs.Verdict.{verdictCode}
 use Rattle.schema.proofs.Cases.{cases-hold}
 use Rattle.schema.proofs.Handed.{handed-sheet}
 use Rattle.schema.proofs.Laws.{has-one}
+use Rattle.schema.proofs.Small.{refusal-small}
 use Rattle.memo.specs.Answer.{reply}
 use Rattle.memo.specs.Verdict.{numbers, Judges, VerdictPromise}
 use Rattle.memo.specs.Verdict as verdict
 use Rattle.memo.specs.declared.Judgement.{Judgement}
 use Rattle.entryreader.specs.Codes.{exported, Coded, VerdictCode, codeOf}
-use Rattle.entryreader.proofs.Small.{refusal-small}
 
 code-small : (n : ℕ) (o : Outcome) → verdictCode n o ≤ 5
 code-small n (result (success q)) = by-test (eqb q n)

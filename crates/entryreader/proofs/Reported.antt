@@ -5,26 +5,16 @@ use Prim.Native.Nat.{ℕ, _≤_}
 use native.Mathlib.Omega.{arith}
 use lib.ListN.{length}
 use Rattle.grammar.specs.Refusal.{Checked, refused, accepted}
-use Rattle.grammar.specs.Rule.{Rule}
 use Rattle.grammar.specs.Sheet.{Grammar}
-use Rattle.schema.specs.Derivation.{_at_, success, failure, missing, end, Outcome, result, stopped, loop, Has}
+use Rattle.schema.specs.Derivation.{_at_, Outcome}
 use Rattle.schema.specs.Handed.{handed, questionOf}
 use Rattle.schema.specs.Table.{code}
-use Rattle.schema.proofs.Ends.{derives-ends}
 use Rattle.schema.proofs.Handed.{handed-input, handed-pair}
+use Rattle.schema.proofs.Small.{refusal-small, code-small}
 use Rattle.memo.specs.Answer.{outcomeOf, told, Replies, QuestionPromise}
 use Rattle.memo.specs.declared.Answer.{Answer}
 use Rattle.memo.proofs.Promised.{one-result}
 use Rattle.entryreader.specs.Codes.{returned, reported, QuestionNumbers, Fits}
-use Rattle.entryreader.proofs.Small.{refusal-small}
-
--- The code of an outcome on up to 4,096 bytes.
-code-small : (rule : ℕ → Rule) (s : List ℕ) (A p : ℕ) (o : Outcome) → p ≤ length s → length s ≤ 4096 → Has rule s (A at p) o → code o ≤ 4101
-code-small rule s A p (result (success q)) l m d = let e = derives-ends rule s l (d .2) in omega arith
-code-small rule s A p (result failure) l m d = omega arith
-code-small rule s A p (stopped missing) l m d = omega arith
-code-small rule s A p (stopped end) l m d = omega arith
-code-small rule s A p loop l m d = omega arith
 
 module _ (s input : List ℕ) (A p : ℕ) (table table′ work work′ : List ℕ) where
   -- The numbers of an answer fit 32 bits.

@@ -15,5 +15,6 @@ pub mod Admission
 pub mod Admitted
 pub mod SheetClosed
 pub mod LineLength
+pub mod Small
 pub mod Eval
 pub mod Cases

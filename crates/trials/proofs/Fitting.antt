@@ -1,0 +1,117 @@
+-- The numbers of the machine, the writer and the checker fit 32 bits. Assumes nothing.
+use mathlib.Core.List.{List, [], _∷_, _++_}
+use mathlib.Core.Option.{some}
+use mathlib.Core.Path.{_≡_, refl, sym, ap, _∙_, subst}
+use Prim.Native.Nat.{ℕ, zero, suc, _≤_}
+use native.Mathlib.Omega.{arith}
+use lib.ListN.{length}
+use Rattle.calls.proofs.Clash.{clash}
+use Rattle.grammar.specs.Refusal.{Checked, refused, accepted, fault}
+use Rattle.grammar.specs.Rule.{Rule}
+use Rattle.grammar.specs.Sheet.{Grammar, grammarOf, sheetFaults}
+use Rattle.grammar.proofs.Refusals.{refused-first}
+use Rattle.schema.specs.Derivation.{Pair, _at_, Result, success, failure, Outcome, result, Has}
+use Rattle.schema.specs.Handed.{Handed, asked, handed, callFaults}
+use Rattle.schema.specs.Machine.{RunOutcome, says, spent, noFrame, Ran, ran}
+use Rattle.schema.specs.Table.{code}
+use Rattle.schema.proofs.Handed.{handed-input, handed-pair}
+use Rattle.schema.proofs.Small.{Small, small-append, small-first, call-small, refusal-small, code-small}
+use Rattle.memo.specs.Answer.{outcomeOf, told}
+use Rattle.memo.specs.Writer.{writerOf, RepliesWriting, WriterPromise}
+use Rattle.memo.specs.declared.writer.Written.{Written}
+use Rattle.backtrack.specs.Run.{told as ended, Comes, Runs}
+use Rattle.backtrack.specs.declared.Ending.{Ending}
+use Rattle.backtrack.proofs.Call as machine
+use Rattle.checker.specs.Checker.{told as claims, lines, lineAt, lineFaults, certificateFaults, claimOf, Claimed, checkFaults, check, Checks}
+use Rattle.checker.specs.Proper.{claimed}
+use Rattle.checker.specs.declared.Claim.{Claim}
+use Rattle.checker.proofs.Call as checker
+use Rattle.trials.specs.Numbers.{returned, reported, Fits, ranCode, replyCode, claimCode, claimNumbers, CheckNumbers}
+
+-- The code of an outcome that the pair of an accepted question has.
+accepted-code : (s : List ℕ) (h : Handed) (g : Grammar) (A p : ℕ) → handed s h ≡ accepted g → h .pair ≡ some (A at p)
+    → (o : Outcome) → Has (g .rule) (h .input) (A at p) o → code o ≤ 10001
+accepted-code s h g A p e f o d =
+    let k = code-small (g .rule) (h .input) A p o (handed-pair s h g e (A at p) f .place) (handed-input s h g e) d in omega arith
+
+-- ---- The machine.
+
+module _ (s input : List ℕ) (A p : ℕ) (frames frames′ : List ℕ) (budget : ℕ) (r : Ending) (runs : Runs s input (A at p) frames frames′ budget r) where
+  run-ended : (g : Grammar) → handed s (asked input (A at p)) ≡ accepted g → (a : Ran) → ended r ≡ accepted a → ranCode a ≤ 10001
+  run-ended g e (ran (says o) moves) f =
+      accepted-code s _ g A p e refl o (machine.call-derived s input (A at p) frames frames′ budget r runs g e o (moves, f))
+  run-ended g e (ran spent moves) f = omega arith
+  run-ended g e (ran noFrame moves) f = omega arith
+
+  pub run-fits : Fits ranCode (ended r)
+  run-fits = by-sheet (handed s (asked input (A at p))) refl runs
+    where
+      by-sheet : (o : Checked Grammar) → handed s (asked input (A at p)) ≡ o → Comes o input (A at p) frames frames′ budget r → Fits ranCode (ended r)
+      by-sheet (refused x l) e m = let k = refusal-small s _ x l e in subst (Fits ranCode) (sym (m .0)) (omega arith)
+      by-sheet (accepted g) e m = subst (Fits ranCode) (sym (m .answer)) (run-ended g e _ (m .answer))
+
+-- ---- The writer.
+
+module _ (s input : List ℕ) (A p : ℕ) (table table′ work work′ out out′ : List ℕ) (r : Written)
+    (promise : WriterPromise s input A p table table′ work work′ out out′ r) where
+  pub writer-fits : Fits replyCode (told (r .answer))
+  writer-fits = by-sheet (handed s (writerOf input (A at p) (length table) (length work) (length out))) refl promise
+    where
+      by-sheet : (o : Checked Grammar) → handed s (writerOf input (A at p) (length table) (length work) (length out)) ≡ o
+          → RepliesWriting o input (A at p) table table′ work work′ out out′ (told (r .answer)) (r .lines) → Fits replyCode (told (r .answer))
+      by-sheet (refused x l) e m = let k = refusal-small s _ x l e in subst (Fits replyCode) (sym (m .0)) (omega arith)
+      by-sheet (accepted g) e m =
+          let a = m .2 in
+          let k = accepted-code s _ g A p e refl (a .outcome) (a .has) in
+          subst (Fits replyCode) (sym (m .1)) (subst (λ (o : Outcome). code o ≤ 10001) (sym (ap outcomeOf (a .says))) k)
+
+-- ---- The checker.
+
+lines-small : (rule : ℕ → Rule) (v : ℕ) (input reading : List ℕ) (k : ℕ) → Small 14 (lineFaults rule v input reading k)
+unfolding lineFaults
+lines-small rule v input reading zero = tt
+lines-small rule v input reading (suc k) =
+    small-append 14 (lineFaults rule v input reading k) _ (lines-small rule v input reading k) (omega arith, (omega arith, tt))
+
+certificate-small : (rule : ℕ → Rule) (v : ℕ) (input : List ℕ) (x : Pair) (reading : List ℕ) → Small 14 (certificateFaults rule v input x reading)
+unfolding certificateFaults
+certificate-small rule v input x reading =
+    (omega arith, small-append 14 (lineFaults rule v input reading (lines reading)) _ (lines-small rule v input reading (lines reading)) (omega arith, tt))
+
+-- The number of a checker's refusal is at most 14.
+check-small : (s input : List ℕ) (x : Pair) (reading : List ℕ) (y l : ℕ) → check s input x reading ≡ refused y l → y ≤ 14
+unfolding check checkFaults
+check-small s input x reading y l e =
+    let g = grammarOf s in
+    let fs = sheetFaults s ++ callFaults g (asked input x) in
+    let gs = certificateFaults (g .rule) (g .variables) input x reading in
+    small-first 14 y l (fs ++ gs)
+    (small-append 14 fs gs (call-small 14 (omega arith) s (asked input x)) (certificate-small (g .rule) (g .variables) input x reading))
+    (refused-first (fs ++ gs) (claimOf (lineAt reading (lines reading))) y l .0 e)
+
+-- The code of a claim is that of the result.
+claim-code : (A p : ℕ) (t : Result) → claimCode (claimed (A at p) t) ≡ code (result t)
+claim-code A p (success q) = refl
+claim-code A p failure = refl
+
+module _ (s input : List ℕ) (A p : ℕ) (reading : List ℕ) (r : Claim) (checks : Checks s input (A at p) reading r) where
+  passed : (c : Claimed) → claims r ≡ accepted c → (o : Checked Grammar) → handed s (asked input (A at p)) ≡ o → claimCode c ≤ 10001
+  passed c f (refused y l) e = let k = checker.call-refused s input (A at p) reading r checks y l e in absurd (clash (cc))
+  passed c f (accepted g) e =
+      let y = checker.call-claims s input (A at p) reading r checks g e c f in
+      let t = y .0 in
+      let same : c ≡ claimed (A at p) t = let h = y .1 in cc in
+      let k = accepted-code s _ g A p e refl (result t) (checker.call-derived s input (A at p) reading r checks g e t (y .1)) in
+      subst (λ (d : Claimed). claimCode d ≤ 10001) (sym same) (rw (claim-code A p t) k)
+
+  pub check-fits : Fits claimCode (claims r)
+  check-fits = by-claim (claims r) refl
+    where
+      by-claim : (o : Checked Claimed) → claims r ≡ o → Fits claimCode o
+      by-claim (refused y l) e = check-small s input (A at p) reading y l (sym checks ∙ e)
+      by-claim (accepted c) e = passed c e (handed s (asked input (A at p))) refl
+
+  -- The numbers of the answer are those of the definition.
+  pub check-numbers : (answer answer′ : List ℕ) (n : ℕ) → n ≡ returned (claims r) → answer′ ≡ reported claimNumbers answer (claims r)
+      → CheckNumbers s input A p reading answer answer′ n
+  check-numbers answer answer′ n e f = record { returns = e ∙ ap returned checks; reports = f ∙ ap (reported claimNumbers answer) checks }

@@ -1,0 +1,102 @@
+-- The numbers that the exported calls of machine, writer and checker hand over. Assumes nothing.
+use mathlib.Core.List.{List, [], _∷_}
+use mathlib.Core.Path.{_≡_}
+use Prim.Native.Nat.{ℕ, _+_, _≤_}
+use Rattle.grammar.specs.Refusal.{Checked, refused, accepted}
+use Rattle.schema.specs.Derivation.{_at_, success, failure, Outcome, result, stopped, loop}
+use Rattle.schema.specs.Machine.{RunOutcome, says, spent, noFrame, Ran, ran}
+use Rattle.schema.specs.Table.{code}
+use Rattle.memo.specs.Answer.{Reply, reply, outcomeOf, told}
+use Rattle.memo.specs.Writer.{WriterPromise}
+use Rattle.memo.specs.declared.writer.Written.{Written}
+use Rattle.backtrack.specs.Run.{told as ended, Runs}
+use Rattle.backtrack.specs.declared.Ending.{Ending}
+use Rattle.checker.specs.Checker.{Claimed, succeeds, fails, check}
+
+-- What a call returns: 0, or 100 plus the refusal's number.
+abbrev pub returned : {A : Type 0} → Checked A → ℕ
+returned (refused number line) = 100 + number
+returned (accepted a) = 0
+
+-- What stands in the answer afterwards: the numbers of what is accepted. A refusal leaves what stood there.
+abbrev pub reported : {A : Type 0} → (A → List ℕ) → List ℕ → Checked A → List ℕ
+reported numbers before (refused number line) = before
+reported numbers before (accepted a) = numbers a
+
+-- The numbers fit 32 bits: refusals go up to 14, codes up to 10,001.
+abbrev pub Fits : {A : Type 0} → (A → ℕ) → Checked A → Type 0
+Fits code-of (refused number line) = number ≤ 14
+Fits code-of (accepted a) = code-of a ≤ 10001
+
+-- ---- The machine.
+
+-- The code of an outcome is that of a cell; 10,000 for spent and 10,001 for no frame, above the code of every success (5 + 4,096).
+abbrev pub runCode : RunOutcome → ℕ
+runCode (says o) = code o
+runCode spent = 10000
+runCode noFrame = 10001
+
+abbrev pub outcomeEnd : Outcome → ℕ
+outcomeEnd (result (success q)) = q
+outcomeEnd (result failure) = 0
+outcomeEnd (stopped w) = 0
+outcomeEnd loop = 0
+
+-- "the end on success", else 0.
+abbrev pub runEnd : RunOutcome → ℕ
+runEnd (says o) = outcomeEnd o
+runEnd spent = 0
+runEnd noFrame = 0
+
+-- The code of what a run ends with.
+abbrev pub ranCode : Ran → ℕ
+ranCode (ran o moves) = runCode o
+
+-- "the outcome, the end on success, and the moves"
+abbrev pub runNumbers : Ran → List ℕ
+runNumbers (ran o moves) = runCode o ∷ runEnd o ∷ moves ∷ []
+
+-- The call's promise: that of the machine's run, with its ending in these numbers.
+pub record RunNumbers (sheet input : List ℕ) (A p : ℕ) (frames frames′ : List ℕ) (budget : ℕ) (answer answer′ : List ℕ) (r : ℕ) : Type 0 where
+  pub found : Ending
+  pub promise : Runs sheet input (A at p) frames frames′ budget found
+  pub returns : r ≡ returned (ended found)
+  pub reports : answer′ ≡ reported runNumbers answer (ended found)
+
+-- ---- The writer.
+
+-- The code of a reply's outcome.
+abbrev pub replyCode : Reply → ℕ
+replyCode a = code (outcomeOf a)
+
+-- What the cell of the pair holds, the named variable and the named position (both 0 if none is named), the count of decided cells, the count of lines.
+abbrev pub writerNumbers : ℕ → Reply → List ℕ
+writerNumbers lines (reply o (A at p) count) = code o ∷ A ∷ p ∷ count ∷ lines ∷ []
+
+-- The call's promise: that of the writer, with its answer and the count of lines in these numbers.
+pub record WriterNumbers (sheet input : List ℕ) (A p : ℕ) (table table′ work work′ out out′ answer answer′ : List ℕ) (r : ℕ) : Type 0 where
+  pub found : Written
+  pub promise : WriterPromise sheet input A p table table′ work work′ out out′ found
+  pub returns : r ≡ returned (told (found .answer))
+  pub reports : answer′ ≡ reported (writerNumbers (found .lines)) answer (told (found .answer))
+
+-- ---- The checker.
+
+-- The code of the outcome that a reading claims.
+abbrev pub claimCode : Claimed → ℕ
+claimCode (succeeds e) = code (result (success e))
+claimCode (fails e) = code (result failure)
+
+-- The end in the last line.
+abbrev pub claimEnd : Claimed → ℕ
+claimEnd (succeeds e) = e
+claimEnd (fails e) = e
+
+-- "The checker returns the outcome and end in the last line".
+abbrev pub claimNumbers : Claimed → List ℕ
+claimNumbers c = claimCode c ∷ claimEnd c ∷ []
+
+-- The call's promise: what the definition of checking says of the reading, in these numbers.
+pub record CheckNumbers (sheet input : List ℕ) (A p : ℕ) (reading answer answer′ : List ℕ) (r : ℕ) : Type 0 where
+  pub returns : r ≡ returned (check sheet input (A at p) reading)
+  pub reports : answer′ ≡ reported claimNumbers answer (check sheet input (A at p) reading)

@@ -1,0 +1,132 @@
+// The machine, the writer and the checker for tests and benchmarks in other languages.
+// Each call returns 0 with its numbers in `answer`, or 100 plus the number of a refusal, with everything lent to it unchanged.
+ghost use mathlib.Core.Path.{_≡_};
+ghost use Rattle.memo.specs.Answer.{told};
+ghost use Rattle.backtrack.specs.Run.{told as ended};
+ghost use Rattle.checker.specs.Checker.{told as claimed};
+ghost use Rattle.trials.specs.Numbers.{returned, reported, Fits, ranCode, runNumbers, RunNumbers, replyCode, writerNumbers, WriterNumbers, claimCode, claimNumbers, CheckNumbers};
+use backtrack::Ending;
+use checker::Claim;
+use memo::Answer;
+use memo::Cell;
+
+// The code of a run whose moves are spent.
+const SPENT: u32 = 10000;
+
+// The code of a run that lacks a frame.
+const NO_FRAME: u32 = 10001;
+
+// Stores the three numbers of a run's ending, and returns 0; or 100 plus the number of a refusal.
+fn report_run(ending: Ending, out: &mut [u32; 3]) -> u32
+    requires { ⌜ Fits ranCode (ended ending) ⌝ }
+    ensures returns { λ r. ⌜ r ≡ returned (ended ending) ⌝ }
+    ensures reports { λ _. ⌜ now (out .exit) ≡ reported runNumbers (now (out .entry)) (ended ending) ⌝ }
+{
+    let three = match ending {
+        Ending::Success(end, moves) => [Cell::SUCCESS.0 + end, end, moves],
+        Ending::Failure(moves) => [Cell::FAILURE.0, 0, moves],
+        Ending::Missing(moves) => [Cell::MISSING.0, 0, moves],
+        Ending::End(moves) => [Cell::END.0, 0, moves],
+        Ending::Spent(moves) => [SPENT, 0, moves],
+        Ending::NoFrame(moves) => [NO_FRAME, 0, moves],
+        Ending::Refused(number, _) => {
+            return 100 + number;
+        }
+    };
+    *out = three;
+    0
+}
+
+// The machine's run on a variable at a position of the input, over lent frames. The answer: the outcome's code (5 + q for success ending at q,
+// 1 failure, 3 missing, 4 end, 10,000 spent, 10,001 no frame), the end on success or else 0, the moves.
+#[no_mangle]
+pub extern "C" fn trials_run(
+    sheet: &[u8],
+    input: &[u8],
+    variable: u32,
+    position: u32,
+    frames: &mut [u32],
+    budget: u32,
+    answer: &mut [u32; 3],
+) -> u32
+    ensures { λ r. ⌜ RunNumbers (now (sheet .entry)) (now (input .entry)) variable position (now (frames .entry)) (now (frames .exit)) budget (now (answer .entry)) (now (answer .exit)) r ⌝ }
+{
+    let found = backtrack::run(sheet, input, variable, position, frames, budget);
+    report_run(found, answer)
+}
+
+// Stores the four numbers of an answer and the count of lines, and returns 0; or 100 plus the number of a refusal.
+fn report_written(answer: Answer, lines: u32, out: &mut [u32; 5]) -> u32
+    requires { ⌜ Fits replyCode (told answer) ⌝ }
+    ensures returns { λ r. ⌜ r ≡ returned (told answer) ⌝ }
+    ensures reports { λ _. ⌜ now (out .exit) ≡ reported (writerNumbers lines) (now (out .entry)) (told answer) ⌝ }
+{
+    let five = match answer {
+        Answer::Success(end, count) => [Cell::SUCCESS.0 + end, 0, 0, count, lines],
+        Answer::Failure(count) => [Cell::FAILURE.0, 0, 0, count, lines],
+        Answer::Loop(variable, position, count) => [Cell::LOOP.0, variable, position, count, lines],
+        Answer::Missing(variable, position, count) => {
+            [Cell::MISSING.0, variable, position, count, lines]
+        }
+        Answer::End(variable, position, count) => [Cell::END.0, variable, position, count, lines],
+        Answer::Refused(number, _) => {
+            return 100 + number;
+        }
+    };
+    *out = five;
+    0
+}
+
+// The writer's question about a variable at a position of the input, over a lent table, a lent work slice and a lent output. The answer: the
+// cell's code, the named variable, the named position, the count of decided cells, the count of lines.
+#[no_mangle]
+pub extern "C" fn trials_write(
+    sheet: &[u8],
+    input: &[u8],
+    variable: u32,
+    position: u32,
+    table: &mut [u32],
+    work: &mut [u32],
+    out: &mut [u8],
+    answer: &mut [u32; 5],
+) -> u32
+    ensures { λ r. ⌜ WriterNumbers (now (sheet .entry)) (now (input .entry)) variable position (now (table .entry)) (now (table .exit)) (now (work .entry)) (now (work .exit)) (now (out .entry)) (now (out .exit)) (now (answer .entry)) (now (answer .exit)) r ⌝ }
+{
+    let written = memo::writer::write(sheet, input, variable, position, table, work, out);
+    let found = written.answer;
+    report_written(found, written.lines, answer)
+}
+
+// Stores the two numbers of a claim, and returns 0; or 100 plus the number of a refusal.
+fn report_claim(claim: Claim, out: &mut [u32; 2]) -> u32
+    requires { ⌜ Fits claimCode (claimed claim) ⌝ }
+    ensures returns { λ r. ⌜ r ≡ returned (claimed claim) ⌝ }
+    ensures reports { λ _. ⌜ now (out .exit) ≡ reported claimNumbers (now (out .entry)) (claimed claim) ⌝ }
+{
+    let two = match claim {
+        Claim::Success(end) => [Cell::SUCCESS.0 + end, end],
+        Claim::Failure(end) => [Cell::FAILURE.0, end],
+        Claim::Refused(number, _) => {
+            return 100 + number;
+        }
+    };
+    *out = two;
+    0
+}
+
+// The checker on a reading for a variable at a position of the input. The answer: the code of the outcome that it claims (5 + q for success ending
+// at q, 1 failure), and the end in its last line.
+#[no_mangle]
+pub extern "C" fn trials_check(
+    sheet: &[u8],
+    input: &[u8],
+    variable: u32,
+    position: u32,
+    reading: &[u8],
+    answer: &mut [u32; 2],
+) -> u32
+    ensures { λ r. ⌜ CheckNumbers (now (sheet .entry)) (now (input .entry)) variable position (now (reading .entry)) (now (answer .entry)) (now (answer .exit)) r ⌝ }
+{
+    let found = checker::check(sheet, input, variable, position, reading);
+    report_claim(found, answer)
+}
