@@ -21,6 +21,7 @@
 #![warn(missing_docs)]
 
 mod calls;
+pub mod trials;
 
 /// A variable and a place.
 #[derive(Clone, Copy, Debug, PartialEq, Eq, Hash)]
