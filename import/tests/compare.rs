@@ -1,160 +1,15 @@
-//! Both calls beside a recognizer written separately, on many sheets and entries: long and short, valid and damaged.
+//! All calls beside a recognizer written separately, on many sheets, entries and readings: long and short, valid and damaged.
+//!
+//! Every lent slice is the middle of a longer one: what may not change, in it and around it, is compared too.
+mod comparison;
+mod lent;
+mod questions;
 mod recognizer;
 
-use import::{Answer, Pair, question, verdict};
-
-/// The same numbers in every run.
-struct Random(u64);
-
-impl Random {
-    fn below(&mut self, bound: u64) -> u64 {
-        self.0 = self
-            .0
-            .wrapping_mul(6364136223846793005)
-            .wrapping_add(1442695040888963407);
-        (self.0 >> 33) % bound
-    }
-
-    fn pick<'a, T>(&mut self, from: &'a [T]) -> &'a T {
-        &from[self.below(from.len() as u64) as usize]
-    }
-}
-
-fn row(numbers: [u64; 5]) -> String {
-    numbers.map(|x| format!("{x:>5}")).concat() + "\n"
-}
-
-fn rule(random: &mut Random, variable: u64, variables: u64) -> String {
-    let kind = *random.pick(&[0, 1, 2, 2, 3, 4, 4, 4, 4, 4]);
-    let mut operand = || 1 + random.below(variables);
-    let operands = match kind {
-        0 | 1 => [0, 0, 0],
-        2 => [*random.pick(&[97, 98, 45, 46]), 0, 0],
-        3 => [1 + random.below(6), 0, 0],
-        _ => [operand(), operand(), operand()],
-    };
-    row([variable, kind, operands[0], operands[1], operands[2]])
-}
-
-/// A sheet of up to so many variables, an eighth of them without a rule.
-fn sheet(random: &mut Random, most: u64) -> Vec<u8> {
-    let variables = 1 + random.below(most);
-    let mut text = row([variables, 1 + random.below(variables), 46, 0, 0]);
-    for variable in 1..=variables {
-        if random.below(8) != 0 {
-            text += &rule(random, variable, variables);
-        }
-    }
-    text.into_bytes()
-}
-
-/// Up to so many bytes, mostly with an endmarker at the end.
-fn entry(random: &mut Random, most: u64) -> Vec<u8> {
-    let bytes = [
-        b'a', b'a', b'a', b'b', b'-', b'6', b'A', b' ', b'!', 200, 0, b'.',
-    ];
-    let choice = &bytes[..1 + random.below(bytes.len() as u64) as usize];
-    let mut entry: Vec<u8> = (0..random.below(most + 1))
-        .map(|_| *random.pick(choice))
-        .collect();
-    if random.below(4) != 0 {
-        entry.push(b'.');
-    }
-    entry
-}
-
-fn damage(random: &mut Random, sheet: &mut Vec<u8>) {
-    let at = random.below(sheet.len() as u64) as usize;
-    let byte = *random.pick(b" 0123456789\n-a");
-    match random.below(4) {
-        0 => sheet[at] = byte,
-        1 => sheet.insert(at, byte),
-        2 => drop(sheet.remove(at)),
-        _ => {
-            let last = 25.min(sheet.len() - 1);
-            sheet.swap(at, last);
-        }
-    }
-}
-
-/// The question with a table and a work slice that hold anything, compared to the last number.
-fn same_question(sheet: &[u8], entry: &[u8], asked: Pair, table: usize, work: usize) -> Answer {
-    let (answer, own) = recognizer::question(sheet, entry, asked, table, work);
-    let before: Vec<u32> = (0..table as u32)
-        .map(|i| i.wrapping_mul(2654435769))
-        .collect();
-    let mut expected = before.clone();
-    expected[..own.len()].copy_from_slice(&own);
-    let (mut table, mut work) = (before, vec![u32::MAX; work]);
-    let found = question(
-        sheet,
-        entry,
-        asked.variable,
-        asked.place,
-        &mut table,
-        &mut work,
-    );
-    let case = || {
-        format!(
-            "{}{:?} {asked:?}",
-            String::from_utf8_lossy(sheet),
-            String::from_utf8_lossy(entry)
-        )
-    };
-    assert_eq!(found, answer, "{}", case());
-    assert!(table == expected, "{}", case());
-    assert!(
-        work[own.len()..].iter().all(|x| *x == u32::MAX),
-        "{}",
-        case()
-    );
-    found
-}
-
-fn same_verdict(sheet: &[u8], entry: &[u8]) {
-    let expected = recognizer::verdict(sheet, entry);
-    assert_eq!(
-        verdict(sheet, entry),
-        expected,
-        "{}{:?}",
-        String::from_utf8_lossy(sheet),
-        String::from_utf8_lossy(entry)
-    );
-}
-
-/// Which answer it is, as an index.
-fn kind(answer: Answer) -> usize {
-    match answer {
-        Answer::Success { .. } => 0,
-        Answer::Failure { .. } => 1,
-        Answer::Loop { .. } => 2,
-        Answer::Missing { .. } => 3,
-        Answer::End { .. } => 4,
-        Answer::Refused(_) => 5,
-    }
-}
-
-#[test]
-fn short_entries() {
-    let mut random = Random(1);
-    let mut seen = [0; 6];
-    for round in 0..40_000 {
-        let mut sheet = sheet(&mut random, 8);
-        if round % 4 == 3 {
-            damage(&mut random, &mut sheet);
-        }
-        let entry = entry(&mut random, 12);
-        let asked = Pair {
-            variable: random.below(10) as u32,
-            place: random.below(entry.len() as u64 + 2) as u32,
-        };
-        let table = 8 * (entry.len() + 1) - random.below(8) as usize;
-        let work = 8 * (entry.len() + 1) + random.below(8) as usize;
-        seen[kind(same_question(&sheet, &entry, asked, table, work))] += 1;
-        same_verdict(&sheet, &entry);
-    }
-    assert!(seen.iter().all(|count| *count > 100), "{seen:?}");
-}
+use comparison::Comparison;
+use import::Pair;
+use questions::{Case, row};
+use std::io::Write;
 
 /// The recognizer calls itself as deep as a walk is long.
 fn with_deep_stack(test: fn()) {
@@ -165,63 +20,212 @@ fn with_deep_stack(test: fn()) {
         .expect("the test passes");
 }
 
+/// A question about variable 1.
+fn case(sheet: &str, entry: &[u8], place: u32) -> Case {
+    let variables: usize = sheet[..5].trim().parse().expect("line 1 has V");
+    Case {
+        sheet: sheet.as_bytes().to_vec(),
+        entry: entry.to_vec(),
+        asked: Pair { variable: 1, place },
+        cells: variables * (entry.len() + 1),
+    }
+}
+
 #[test]
-fn long_entries() {
+fn random_questions() {
+    with_deep_stack(|| Comparison::new(1).many(15_000));
+}
+
+/// The long comparison. `COMPARE_SEED` in the environment gives other questions.
+#[test]
+#[ignore = "a command of its own: see README.md"]
+fn long_comparison() {
     with_deep_stack(|| {
-        let mut random = Random(2);
-        for _ in 0..300 {
-            let sheet = sheet(&mut random, 40);
-            let entry = entry(&mut random, 4099);
-            let asked = Pair {
-                variable: 1,
-                place: random.below(20) as u32,
+        let seed = std::env::var("COMPARE_SEED").map_or(2, |seed| seed.parse().expect("a number"));
+        let questions = 400_000;
+        let mut comparison = Comparison::new(seed);
+        comparison.many(questions);
+        // Not `println!`, which a passing test would keep to itself.
+        let mut output = std::io::stdout().lock();
+        let summary = comparison.summary();
+        write!(output, "\n{questions} questions, seed {seed}\n{summary}").expect("it is printed");
+    });
+}
+
+/// A change in a lent slice, or just outside it, is noticed.
+#[test]
+fn guards_notice() {
+    let mut random = questions::Random(10);
+    let mut lent = lent::Lent::<u32>::any(&mut random, 3);
+    lent.slice().copy_from_slice(&[1, 2, 3]);
+    assert!(lent.holds(&[1, 2, 3]) && lent.keeps_from(3));
+    assert!(!lent.keeps_from(2) && !lent.unchanged() && !lent.holds(&[1, 2, 4]));
+    for outside in [7, 11] {
+        let mut lent = lent::Lent::<u32>::any(&mut random, 3);
+        assert!(lent.unchanged());
+        lent.overwrite(outside);
+        assert!(!lent.keeps_from(3) && !lent.unchanged());
+    }
+}
+
+const H: &str = "    6    1   46    0    0
+    1    4    2    3    3
+    2    2   45    0    0
+    3    4    4    5    6
+    4    3    1    0    0
+    5    2   46    0    0
+    6    1    0    0    0
+";
+
+/// Rules that go through the whole entry: a run of one byte.
+const RUN: &str = "    3    1   46    0    0
+    1    4    2    1    3
+    2    2   97    0    0
+    3    0    0    0    0
+";
+
+/// The same with a loop after the last byte.
+const LOOPING: &str = "    3    1   46    0    0
+    1    4    2    1    3
+    2    2   97    0    0
+    3    4    3    3    3
+";
+
+/// 1 = "(" 1 ")" 1, or nothing.
+const BRACKETS: &str = "    7    1   46    0    0
+    1    4    2    3    4
+    2    2   40    0    0
+    3    4    1    5    6
+    4    0    0    0    0
+    5    4    7    1    6
+    6    1    0    0    0
+    7    2   41    0    0
+";
+
+/// Success, failure, end, loop and missing.
+fn few_cases() -> [Case; 6] {
+    let missing = "    2    1   46    0    0\n    1    4    2    2    2\n";
+    [
+        case(H, b"-6.", 0),
+        case(H, b"x", 0),
+        case(H, b"-6", 0),
+        case(RUN, b"aa.", 1),
+        case(LOOPING, b"a.", 0),
+        case(missing, b"", 0),
+    ]
+}
+
+/// 0 to 4, and two below to two above the limit.
+fn around(limit: usize) -> Vec<usize> {
+    let mut lengths: Vec<usize> = (0..5).chain(limit.saturating_sub(2)..limit + 3).collect();
+    lengths.sort();
+    lengths.dedup();
+    lengths
+}
+
+#[test]
+fn lengths_of_table_work_and_output() {
+    let mut comparison = Comparison::new(3);
+    for case in few_cases() {
+        for table in around(case.cells) {
+            for work in around(case.cells) {
+                comparison.question(&case, table, work);
+                for output in around(49 * case.cells) {
+                    comparison.write(&case, table, work, output);
+                }
+            }
+        }
+    }
+}
+
+/// Around 3h and 2k - 1: every length from none to more than enough, with every budget.
+#[test]
+fn lengths_of_frames_and_budgets() {
+    let mut comparison = Comparison::new(4);
+    for case in few_cases() {
+        let size = recognizer::size(case.question());
+        let (steps, height) = size.map_or((10, 10), |size| (size.steps, size.height));
+        for frames in 0..3 * height as usize + 4 {
+            for budget in (0..2 * steps as u32 + 3).chain([u32::MAX]) {
+                comparison.run(&case, frames, budget);
+            }
+        }
+    }
+}
+
+/// Every beginning of a sheet, of a reading, and of both with more behind them.
+#[test]
+fn lengths_of_sheet_and_reading() {
+    let mut comparison = Comparison::new(5);
+    for case in few_cases() {
+        let own = recognizer::bytes(&recognizer::reading(case.question()).expect("it is admitted"));
+        let longer = own.repeat(2);
+        for length in 0..=longer.len() {
+            comparison.check(&case, &longer[..length]);
+        }
+        let sheet = case.sheet.repeat(2);
+        for length in 0..=sheet.len() {
+            let sheet = sheet[..length].to_vec();
+            let cut = Case {
+                sheet,
+                ..case.clone()
             };
-            let size = 40 * (entry.len() + 1);
-            same_question(&sheet, &entry, asked, size, size);
-            same_verdict(&sheet, &entry);
+            comparison.all(&cut);
+        }
+    }
+}
+
+/// Entries and sheets of the greatest length, and a little longer or shorter.
+#[test]
+fn lengths_of_entry_and_sheet() {
+    with_deep_stack(|| {
+        let mut comparison = Comparison::new(6);
+        for length in 4094..=4099 {
+            comparison.all(&case(RUN, &vec![b'a'; length], 0));
+            comparison.all(&case(H, &vec![b'a'; length], length as u32));
+        }
+        for lines in 255..=259 {
+            let mut sheet = row([256, 1, 46, 0, 0]);
+            for variable in 1..lines {
+                sheet += &row([variable, 4, (variable * 7) % 256 + 1, 256, 2]);
+            }
+            comparison.all(&case(&sheet, b"a.", 0));
         }
     });
 }
 
-/// Rules that go through the whole entry: runs of one byte, brackets one in another, and a loop after the last byte.
+#[test]
+fn long_entries() {
+    with_deep_stack(|| {
+        let mut comparison = Comparison::new(7);
+        for _ in 0..200 {
+            let random = &mut comparison.random;
+            let variables = 1 + random.below(40);
+            let sheet = questions::sheet(random, variables);
+            let length = random.index(4100);
+            let entry = questions::entry(random, length);
+            let place = random.below(20) as u32;
+            let sheet = String::from_utf8(sheet).expect("a sheet is ASCII");
+            comparison.all(&case(&sheet, &entry, place));
+        }
+    });
+}
+
 #[test]
 fn whole_entries() {
     with_deep_stack(|| {
-        let run = row([3, 1, 46, 0, 0])
-            + &row([1, 4, 2, 1, 3])
-            + &row([2, 2, 97, 0, 0])
-            + &row([3, 0, 0, 0, 0]);
-        let looping = row([3, 1, 46, 0, 0])
-            + &row([1, 4, 2, 1, 3])
-            + &row([2, 2, 97, 0, 0])
-            + &row([3, 4, 3, 3, 3]);
-        // 1 = "(" 1 ")" 1, or nothing.
-        let brackets = row([7, 1, 46, 0, 0])
-            + &row([1, 4, 2, 3, 4])
-            + &row([2, 2, 40, 0, 0])
-            + &row([3, 4, 1, 5, 6])
-            + &row([4, 0, 0, 0, 0])
-            + &row([5, 4, 7, 1, 6])
-            + &row([6, 1, 0, 0, 0])
-            + &row([7, 2, 41, 0, 0]);
+        let mut comparison = Comparison::new(8);
         for n in [0, 1, 2, 500, 1023, 1024, 4000, 4095, 4096] {
             let mut plain = vec![b'a'; n];
             let nested: Vec<u8> = (0..n)
                 .map(|i| if i < n / 2 { b'(' } else { b')' })
                 .collect();
-            for sheet in [&run, &looping, &brackets] {
-                for entry in [&plain, &nested] {
-                    let asked = Pair {
-                        variable: 1,
-                        place: 0,
-                    };
-                    let size = 7 * (n + 1);
-                    same_question(sheet.as_bytes(), entry, asked, size, size);
-                    same_verdict(sheet.as_bytes(), entry);
-                }
+            for sheet in [RUN, LOOPING, BRACKETS] {
+                comparison.all(&case(sheet, &plain, 0));
+                comparison.all(&case(sheet, &nested, 0));
             }
             plain.extend(b".");
-            same_verdict(run.as_bytes(), &plain);
+            comparison.verdict(&case(RUN, &plain, 0));
         }
     });
 }
@@ -236,29 +240,14 @@ fn greatest_table() {
         }
         text += &(row([255, 2, 97, 0, 0]) + &row([256, 0, 0, 0, 0]));
         let wide = text.replace("  254    4  255  255  256", "  254    4  255    1  256");
-        let entry = vec![b'a'; 4096];
-        let size = 256 * 4097;
+        let mut comparison = Comparison::new(9);
         for sheet in [&text, &wide] {
-            same_question(
-                sheet.as_bytes(),
-                &entry,
-                Pair {
-                    variable: 1,
-                    place: 0,
-                },
-                size,
-                size,
-            );
-            same_question(
-                sheet.as_bytes(),
-                &entry,
-                Pair {
-                    variable: 1,
-                    place: 0,
-                },
-                size,
-                size - 1,
-            );
+            let case = case(sheet, &[b'a'; 4096], 0);
+            let (cells, output) = (case.cells, 49 * case.cells);
+            comparison.question(&case, cells, cells);
+            comparison.question(&case, cells, cells - 1);
+            comparison.write(&case, cells, cells, output);
+            comparison.write(&case, cells, cells, output - 1);
         }
     });
 }

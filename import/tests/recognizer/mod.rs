@@ -1,8 +1,12 @@
 //! A recognizer of its own, written from document 01: recursive, with a memo in a hash map.
-//! Reached pairs and the named pair are found by their definitions, after the outcomes.
-#![allow(dead_code)]
+//! Reached pairs and the named pair are found by their definitions, after the outcomes. A refusal is its number.
+mod machine;
+mod reading;
 
-use import::{Answer, Pair, Refusal, Verdict};
+pub use machine::{Ending, run};
+pub use reading::{FIELDS, LINE, Line, bytes, check, reading, write};
+
+use import::{Pair, Verdict};
 use std::collections::{HashMap, HashSet};
 
 #[derive(Clone, Copy)]
@@ -22,13 +26,36 @@ struct Sheet {
 }
 
 /// What a finite derivation gives a pair, or loop.
-#[derive(Clone, Copy, PartialEq)]
-enum Outcome {
+#[derive(Clone, Copy, Debug, PartialEq, Eq)]
+pub enum Outcome {
     Success(u32),
     Failure,
     Loop,
     Missing,
     End,
+}
+
+/// "A question is sheet bytes, entry, variable and place".
+#[derive(Clone, Copy)]
+pub struct Question<'a> {
+    pub sheet: &'a [u8],
+    pub entry: &'a [u8],
+    pub asked: Pair,
+}
+
+/// What a question is answered: the outcome, the named pair if any, and the first V times (n + 1) cells, of which `cells` are decided.
+pub struct Answered {
+    pub outcome: Outcome,
+    pub named: Option<Pair>,
+    pub cells: u32,
+    pub table: Vec<u32>,
+}
+
+/// The steps k and the height h of a derivation; k is exact below 2 to the 64th.
+#[derive(Clone, Copy, Debug, PartialEq, Eq)]
+pub struct Size {
+    pub steps: u64,
+    pub height: u64,
 }
 
 /// "blanks (byte 32), then digits, no leading zero, zero written `0`"
@@ -42,9 +69,9 @@ fn field(columns: &[u8]) -> Option<u32> {
     digits.parse().ok()
 }
 
-fn line(bytes: &[u8]) -> Result<Vec<u32>, Refusal> {
+fn line(bytes: &[u8]) -> Result<Vec<u32>, u32> {
     let fields: Option<Vec<u32>> = bytes[..25].chunks(5).map(field).collect();
-    fields.ok_or(Refusal::Field)
+    fields.ok_or(2)
 }
 
 fn rule(variables: u32, kind: u32, operands: &[u32]) -> Option<Rule> {
@@ -60,13 +87,13 @@ fn rule(variables: u32, kind: u32, operands: &[u32]) -> Option<Rule> {
 }
 
 /// Refusals 1 to 5, in their order.
-fn read(sheet: &[u8]) -> Result<Sheet, Refusal> {
+fn read(sheet: &[u8]) -> Result<Sheet, u32> {
     let lines: Vec<&[u8]> = sheet.chunks(26).collect();
     if lines.is_empty()
         || lines.len() > 257
         || lines.iter().any(|l| l.len() != 26 || l[25] != b'\n')
     {
-        return Err(Refusal::NotLines);
+        return Err(1);
     }
     let first = line(lines[0])?;
     let (variables, start, endmarker) = (first[0], first[1], u8::try_from(first[2]));
@@ -76,7 +103,7 @@ fn read(sheet: &[u8]) -> Result<Sheet, Refusal> {
         endmarker,
         [first[3], first[4]],
     ) else {
-        return Err(Refusal::Header);
+        return Err(3);
     };
     let mut rules = HashMap::new();
     let mut before = 0;
@@ -84,9 +111,9 @@ fn read(sheet: &[u8]) -> Result<Sheet, Refusal> {
         let numbers = line(bytes)?;
         let variable = numbers[0];
         if variable <= before || variable > variables {
-            return Err(Refusal::RuleVariable);
+            return Err(4);
         }
-        let found = rule(variables, numbers[1], &numbers[2..]).ok_or(Refusal::Rule)?;
+        let found = rule(variables, numbers[1], &numbers[2..]).ok_or(5u32)?;
         rules.insert(variable, found);
         before = variable;
     }
@@ -110,18 +137,57 @@ fn class(byte: u8) -> u32 {
     }
 }
 
+impl Question<'_> {
+    /// Refusals 1 to 6, 8 and 9, which every call about a pair tests.
+    fn admit(&self) -> Result<Sheet, u32> {
+        let sheet = read(self.sheet)?;
+        if self.entry.len() > 4096 {
+            return Err(6);
+        }
+        if self.asked.variable == 0 || self.asked.variable > sheet.variables {
+            return Err(8);
+        }
+        if self.asked.place as usize > self.entry.len() {
+            return Err(9);
+        }
+        Ok(sheet)
+    }
+
+    /// V times (n + 1).
+    fn cells(&self, sheet: &Sheet) -> usize {
+        sheet.variables as usize * (self.entry.len() + 1)
+    }
+}
+
 struct Recognizer<'a> {
     sheet: &'a Sheet,
     entry: &'a [u8],
     memo: HashMap<Pair, Outcome>,
 }
 
-impl Recognizer<'_> {
-    fn one_byte(&self, place: u32, fits: impl Fn(u8) -> bool) -> Outcome {
-        match self.entry.get(place as usize) {
+impl<'a> Recognizer<'a> {
+    fn new(sheet: &'a Sheet, entry: &'a [u8]) -> Self {
+        Recognizer {
+            sheet,
+            entry,
+            memo: HashMap::new(),
+        }
+    }
+
+    /// What a rule that calls nothing gives; nothing for a rule of kind 4.
+    fn leaf(&self, pair: Pair) -> Option<Outcome> {
+        let one_byte = |fits: &dyn Fn(u8) -> bool| match self.entry.get(pair.place as usize) {
             None => Outcome::End,
-            Some(byte) if fits(*byte) => Outcome::Success(place + 1),
+            Some(byte) if fits(*byte) => Outcome::Success(pair.place + 1),
             Some(_) => Outcome::Failure,
+        };
+        match self.sheet.rules.get(&pair.variable) {
+            None => Some(Outcome::Missing),
+            Some(Rule::Succeeds) => Some(Outcome::Success(pair.place)),
+            Some(Rule::Fails) => Some(Outcome::Failure),
+            Some(Rule::Byte(wanted)) => Some(one_byte(&|byte| byte == *wanted)),
+            Some(Rule::Class(wanted)) => Some(one_byte(&|byte| class(byte) == *wanted)),
+            Some(Rule::Calls(..)) => None,
         }
     }
 
@@ -131,56 +197,25 @@ impl Recognizer<'_> {
             return *found;
         }
         self.memo.insert(pair, Outcome::Loop);
-        let place = pair.place;
-        let found = match self.sheet.rules.get(&pair.variable) {
-            None => Outcome::Missing,
-            Some(Rule::Succeeds) => Outcome::Success(place),
-            Some(Rule::Fails) => Outcome::Failure,
-            Some(Rule::Byte(wanted)) => self.one_byte(place, |byte| byte == *wanted),
-            Some(Rule::Class(wanted)) => self.one_byte(place, |byte| class(byte) == *wanted),
-            Some(Rule::Calls(b, c, d)) => match self.outcome(Pair {
-                variable: *b,
-                place,
-            }) {
-                Outcome::Success(end) => self.outcome(Pair {
-                    variable: *c,
-                    place: end,
-                }),
-                Outcome::Failure => self.outcome(Pair {
-                    variable: *d,
-                    place,
-                }),
-                other => other,
-            },
-        };
+        let found = self.leaf(pair).unwrap_or_else(|| {
+            let called = self.called(pair);
+            self.outcome(called[called.len() - 1])
+        });
         self.memo.insert(pair, found);
         found
     }
 
     /// The pairs that a pair calls, B's and then C's or D's, as far as they are reached.
     fn called(&mut self, pair: Pair) -> Vec<Pair> {
-        let Some(Rule::Calls(b, c, d)) = self.sheet.rules.get(&pair.variable) else {
+        let place = pair.place;
+        let Some(Rule::Calls(b, c, d)) = self.sheet.rules.get(&pair.variable).copied() else {
             return Vec::new();
         };
-        let first = Pair {
-            variable: *b,
-            place: pair.place,
-        };
+        let at = |variable, place| Pair { variable, place };
+        let first = at(b, place);
         match self.outcome(first) {
-            Outcome::Success(end) => vec![
-                first,
-                Pair {
-                    variable: *c,
-                    place: end,
-                },
-            ],
-            Outcome::Failure => vec![
-                first,
-                Pair {
-                    variable: *d,
-                    place: pair.place,
-                },
-            ],
+            Outcome::Success(end) => vec![first, at(c, end)],
+            Outcome::Failure => vec![first, at(d, place)],
             _ => vec![first],
         }
     }
@@ -210,9 +245,31 @@ impl Recognizer<'_> {
         }
         pair
     }
+
+    fn has_result(&mut self, pair: Pair) -> bool {
+        matches!(self.outcome(pair), Outcome::Success(_) | Outcome::Failure)
+    }
+
+    /// "k is the sum of the two k plus 1, h the greater of the two h plus 1", of a pair that has a result.
+    fn size(&mut self, pair: Pair, sizes: &mut HashMap<Pair, Size>) -> Size {
+        if let Some(found) = sizes.get(&pair) {
+            return *found;
+        }
+        let mut size = Size {
+            steps: 1,
+            height: 1,
+        };
+        for next in self.called(pair) {
+            let part = self.size(next, sizes);
+            size.steps = size.steps.saturating_add(part.steps);
+            size.height = size.height.max(part.height + 1);
+        }
+        sizes.insert(pair, size);
+        size
+    }
 }
 
-fn code(outcome: Outcome) -> u32 {
+pub fn code(outcome: Outcome) -> u32 {
     match outcome {
         Outcome::Failure => 1,
         Outcome::Loop => 2,
@@ -222,96 +279,73 @@ fn code(outcome: Outcome) -> u32 {
     }
 }
 
-/// What the verdict is to say, with 1,024 cells.
-pub fn verdict(sheet: &[u8], entry: &[u8]) -> Verdict {
-    let sheet = match read(sheet) {
-        Ok(sheet) => sheet,
-        Err(refusal) => return Verdict::Refused(refusal),
-    };
+/// What the verdict is to say, with 1,024 cells; or the number of a refusal.
+pub fn verdict(sheet: &[u8], entry: &[u8]) -> Result<Verdict, u32> {
+    let sheet = read(sheet)?;
     if entry.len() > 4096 {
-        return Verdict::Refused(Refusal::LongEntry);
+        return Err(6);
     }
     if entry.iter().position(|b| *b == sheet.endmarker) != entry.len().checked_sub(1)
         || entry.is_empty()
     {
-        return Verdict::Refused(Refusal::Endmarker);
+        return Err(7);
     }
     if 1024 < sheet.variables as usize * (entry.len() + 1) {
-        return Verdict::Refused(Refusal::Room);
+        return Err(10);
     }
-    let mut recognizer = Recognizer {
-        sheet: &sheet,
-        entry,
-        memo: HashMap::new(),
-    };
-    match recognizer.outcome(Pair {
+    let start = Pair {
         variable: sheet.start,
         place: 0,
-    }) {
+    };
+    Ok(match Recognizer::new(&sheet, entry).outcome(start) {
         Outcome::Success(end) if end as usize == entry.len() => Verdict::Recognised,
         Outcome::Success(_) => Verdict::Partial,
         Outcome::Failure => Verdict::Failure,
         Outcome::Loop => Verdict::Loop,
         Outcome::Missing => Verdict::Missing,
         Outcome::End => Verdict::End,
-    }
+    })
 }
 
-/// What the question is to answer, and the cells that are its own afterwards; none where it is refused.
-pub fn question(
-    sheet: &[u8],
-    entry: &[u8],
-    asked: Pair,
-    table: usize,
-    work: usize,
-) -> (Answer, Vec<u32>) {
-    let refused = |refusal| (Answer::Refused(refusal), Vec::new());
-    let sheet = match read(sheet) {
-        Ok(sheet) => sheet,
-        Err(refusal) => return refused(refusal),
-    };
-    let width = entry.len() + 1;
-    let size = sheet.variables as usize * width;
-    if entry.len() > 4096 {
-        return refused(Refusal::LongEntry);
-    }
-    if asked.variable == 0 || asked.variable > sheet.variables {
-        return refused(Refusal::Variable);
-    }
-    if asked.place as usize > entry.len() {
-        return refused(Refusal::Place);
-    }
-    if table < size || work < size {
-        return refused(Refusal::Room);
-    }
-    let mut recognizer = Recognizer {
-        sheet: &sheet,
-        entry,
-        memo: HashMap::new(),
-    };
+fn answer(recognizer: &mut Recognizer, asked: Pair, size: usize) -> Answered {
     let outcome = recognizer.outcome(asked);
     let reached = recognizer.reached(asked);
     let cells = reached.len() as u32;
-    let answer = match outcome {
-        Outcome::Success(end) => Answer::Success { end, cells },
-        Outcome::Failure => Answer::Failure { cells },
-        Outcome::Loop => Answer::Loop {
-            named: recognizer.named(asked),
-            cells,
-        },
-        Outcome::Missing => Answer::Missing {
-            named: recognizer.named(asked),
-            cells,
-        },
-        Outcome::End => Answer::End {
-            named: recognizer.named(asked),
-            cells,
-        },
+    let named = match outcome {
+        Outcome::Success(_) | Outcome::Failure => None,
+        _ => Some(recognizer.named(asked)),
     };
-    let mut own = vec![0; size];
+    let width = recognizer.entry.len() + 1;
+    let mut table = vec![0; size];
     for pair in reached {
-        own[(pair.variable as usize - 1) * width + pair.place as usize] =
+        table[(pair.variable as usize - 1) * width + pair.place as usize] =
             code(recognizer.outcome(pair));
     }
-    (answer, own)
+    Answered {
+        outcome,
+        named,
+        cells,
+        table,
+    }
+}
+
+/// What the question is to answer over slices of these lengths, or the number of its refusal.
+pub fn question(question: Question, table: usize, work: usize) -> Result<Answered, u32> {
+    let sheet = question.admit()?;
+    let size = question.cells(&sheet);
+    if table < size || work < size {
+        return Err(10);
+    }
+    let mut recognizer = Recognizer::new(&sheet, question.entry);
+    Ok(answer(&mut recognizer, question.asked, size))
+}
+
+/// Steps and height of the asked pair's derivation, if it has a result.
+pub fn size(question: Question) -> Option<Size> {
+    let sheet = question.admit().ok()?;
+    let mut recognizer = Recognizer::new(&sheet, question.entry);
+    let asked = question.asked;
+    recognizer
+        .has_result(asked)
+        .then(|| recognizer.size(asked, &mut HashMap::new()))
 }

@@ -1,0 +1,413 @@
+//! Each call beside the recognizer: what it returns, its answer, and every lent slice with the guards around it.
+use crate::lent::Lent;
+use crate::questions::{self, Case, Random};
+use crate::recognizer::{self, Answered, Ending, Outcome, Size, bytes, code};
+use import::{Answer, Pair, Refusal, Verdict, trials};
+use std::collections::{BTreeMap, BTreeSet};
+
+const OUTCOMES: &[&str] = &["success", "failure", "loop", "missing", "end"];
+
+/// What each call can say, and the numbers of its refusals; and how many cells a question decides.
+const ANSWERS: [(&str, &[&str], &[u32]); 6] = [
+    ("question", OUTCOMES, &[1, 2, 3, 4, 5, 6, 8, 9, 10]),
+    (
+        "verdict",
+        &["Recognised", "Partial", "Failure", "Loop", "Missing", "End"],
+        &[1, 2, 3, 4, 5, 6, 7, 10],
+    ),
+    (
+        "run",
+        &["success", "failure", "missing", "end", "spent", "no frame"],
+        &[1, 2, 3, 4, 5, 6, 8, 9],
+    ),
+    ("write", OUTCOMES, &[1, 2, 3, 4, 5, 6, 8, 9, 10, 11]),
+    (
+        "check",
+        &["success", "failure"],
+        &[1, 2, 3, 4, 5, 6, 8, 9, 12, 13, 14],
+    ),
+    ("cells", &["1", "2 to 9", "10 to 99", "100 or more"], &[]),
+];
+
+fn name(outcome: Outcome) -> String {
+    let name = match outcome {
+        Outcome::Success(_) => "success",
+        Outcome::Failure => "failure",
+        Outcome::Loop => "loop",
+        Outcome::Missing => "missing",
+        Outcome::End => "end",
+    };
+    name.to_string()
+}
+
+fn refused(number: u32) -> String {
+    format!("refused {number:>2}")
+}
+
+fn decided(cells: u32) -> String {
+    let cells = match cells {
+        0..2 => "1",
+        2..10 => "2 to 9",
+        10..100 => "10 to 99",
+        _ => "100 or more",
+    };
+    cells.to_string()
+}
+
+fn end(outcome: Outcome) -> u32 {
+    match outcome {
+        Outcome::Success(end) => end,
+        _ => 0,
+    }
+}
+
+/// The numbers of a question's answer.
+fn numbers(found: &Answered) -> [u32; 4] {
+    let named = found.named.unwrap_or(Pair {
+        variable: 0,
+        place: 0,
+    });
+    [
+        code(found.outcome),
+        named.variable,
+        named.place,
+        found.cells,
+    ]
+}
+
+/// What the program is to get of a question.
+fn answer(expected: &Result<Answered, u32>) -> Answer {
+    let found = match expected {
+        Ok(found) => found,
+        Err(number) => return Answer::Refused(Refusal::from_number(*number).expect("1 to 10")),
+    };
+    let cells = found.cells;
+    let named = || found.named.expect("only success and failure name no pair");
+    match found.outcome {
+        Outcome::Success(end) => Answer::Success { end, cells },
+        Outcome::Failure => Answer::Failure { cells },
+        Outcome::Loop => Answer::Loop {
+            named: named(),
+            cells,
+        },
+        Outcome::Missing => Answer::Missing {
+            named: named(),
+            cells,
+        },
+        Outcome::End => Answer::End {
+            named: named(),
+            cells,
+        },
+    }
+}
+
+/// Sheet and entry, lent for reading.
+struct Handed {
+    sheet: Lent<u8>,
+    entry: Lent<u8>,
+}
+
+impl Handed {
+    fn new(random: &mut Random, case: &Case) -> Handed {
+        Handed {
+            sheet: Lent::of(random, &case.sheet),
+            entry: Lent::of(random, &case.entry),
+        }
+    }
+
+    fn unchanged(&self) -> bool {
+        self.sheet.unchanged() && self.entry.unchanged()
+    }
+}
+
+/// Compares calls with the recognizer, and counts what was met.
+pub struct Comparison {
+    pub random: Random,
+    met: BTreeMap<(&'static str, String), u64>,
+}
+
+impl Comparison {
+    pub fn new(seed: u64) -> Comparison {
+        Comparison {
+            random: Random(seed),
+            met: BTreeMap::new(),
+        }
+    }
+
+    fn count(&mut self, call: &'static str, what: String) {
+        *self.met.entry((call, what)).or_insert(0) += 1;
+    }
+
+    pub fn question(&mut self, case: &Case, table: usize, work: usize) {
+        let lengths = [table, work];
+        let expected = recognizer::question(case.question(), table, work);
+        let mut handed = Handed::new(&mut self.random, case);
+        let mut table = Lent::any(&mut self.random, table);
+        let mut work = Lent::any(&mut self.random, work);
+        let mut answer = Lent::any(&mut self.random, 4);
+        let code = trials::question(
+            handed.sheet.slice(),
+            handed.entry.slice(),
+            case.asked.variable,
+            case.asked.place,
+            table.slice(),
+            work.slice(),
+            answer.array(),
+        );
+        let (same, what) = match &expected {
+            Ok(found) => (
+                code == 0
+                    && answer.holds(&numbers(found))
+                    && table.holds(&found.table)
+                    && work.keeps_from(found.table.len()),
+                name(found.outcome),
+            ),
+            Err(number) => (
+                code == 100 + number && answer.unchanged() && table.unchanged() && work.unchanged(),
+                refused(*number),
+            ),
+        };
+        let given = answer.slice();
+        assert!(
+            same && handed.unchanged(),
+            "question over {lengths:?}: {code} {given:?}, not {what}\n{case}"
+        );
+        self.count("question", what);
+        if let Ok(found) = &expected {
+            self.count("cells", decided(found.cells));
+        }
+        self.program(case, lengths, &expected);
+    }
+
+    /// The same question as the program asks it.
+    fn program(&mut self, case: &Case, lengths: [usize; 2], expected: &Result<Answered, u32>) {
+        let (mut table, mut work) = (vec![7; lengths[0]], vec![7; lengths[1]]);
+        let Pair { variable, place } = case.asked;
+        let found = import::question(
+            &case.sheet,
+            &case.entry,
+            variable,
+            place,
+            &mut table,
+            &mut work,
+        );
+        assert_eq!(found, answer(expected), "{case}");
+    }
+
+    pub fn verdict(&mut self, case: &Case) {
+        let mut handed = Handed::new(&mut self.random, case);
+        let found = import::verdict(handed.sheet.slice(), handed.entry.slice());
+        let (expected, what) = match recognizer::verdict(&case.sheet, &case.entry) {
+            Ok(verdict) => (verdict, format!("{verdict:?}")),
+            Err(number) => (
+                Verdict::Refused(Refusal::from_number(number).expect("1 to 10")),
+                refused(number),
+            ),
+        };
+        assert_eq!(found, expected, "verdict: {case}");
+        assert!(handed.unchanged(), "verdict: {case}");
+        self.count("verdict", what);
+    }
+
+    pub fn run(&mut self, case: &Case, frames: usize, budget: u32) {
+        let length = frames;
+        let mut handed = Handed::new(&mut self.random, case);
+        let mut frames = Lent::any(&mut self.random, length);
+        let mut answer = Lent::any(&mut self.random, 3);
+        let code = trials::run(
+            handed.sheet.slice(),
+            handed.entry.slice(),
+            case.asked,
+            frames.slice(),
+            budget,
+            answer.array(),
+        );
+        let (same, what) = match recognizer::run(case.question(), length, budget) {
+            Ok(ran) => {
+                let (code_of, end, what) = match ran.ending {
+                    Ending::Outcome(found) => (recognizer::code(found), end(found), name(found)),
+                    Ending::Spent => (trials::SPENT, 0, "spent".to_string()),
+                    Ending::NoFrame => (trials::NO_FRAME, 0, "no frame".to_string()),
+                };
+                let numbers = [code_of, end, ran.moves];
+                (
+                    code == 0 && answer.holds(&numbers) && frames.keeps_from(length),
+                    what,
+                )
+            }
+            Err(number) => (
+                code == 100 + number && answer.unchanged() && frames.unchanged(),
+                refused(number),
+            ),
+        };
+        let given = answer.slice();
+        assert!(
+            same && handed.unchanged(),
+            "run over {length} numbers with budget {budget}: {code} {given:?}, not {what}\n{case}"
+        );
+        self.count("run", what);
+    }
+
+    pub fn write(&mut self, case: &Case, table: usize, work: usize, output: usize) {
+        let lengths = [table, work, output];
+        let mut handed = Handed::new(&mut self.random, case);
+        let mut table = Lent::any(&mut self.random, table);
+        let mut work = Lent::any(&mut self.random, work);
+        let mut output = Lent::any(&mut self.random, output);
+        let mut answer = Lent::any(&mut self.random, 5);
+        let code = trials::write(
+            handed.sheet.slice(),
+            handed.entry.slice(),
+            case.asked,
+            table.slice(),
+            work.slice(),
+            output.slice(),
+            answer.array(),
+        );
+        let [for_table, for_work, for_output] = lengths;
+        let expected = recognizer::write(case.question(), for_table, for_work, for_output);
+        let (same, what) = match expected {
+            Ok(written) => {
+                let found = &written.answered;
+                let [cell, variable, place, cells] = numbers(found);
+                let lines = written.lines.len() as u32;
+                (
+                    code == 0
+                        && answer.holds(&[cell, variable, place, cells, lines])
+                        && table.holds(&found.table)
+                        && work.keeps_from(found.table.len())
+                        && output.holds(&bytes(&written.lines)),
+                    name(found.outcome),
+                )
+            }
+            Err(number) => (
+                code == 100 + number
+                    && answer.unchanged()
+                    && table.unchanged()
+                    && work.unchanged()
+                    && output.unchanged(),
+                refused(number),
+            ),
+        };
+        let given = answer.slice();
+        assert!(
+            same && handed.unchanged(),
+            "write over {lengths:?}: {code} {given:?}, not {what}\n{case}"
+        );
+        self.count("write", what);
+    }
+
+    pub fn check(&mut self, case: &Case, reading: &[u8]) {
+        let mut handed = Handed::new(&mut self.random, case);
+        let mut lent = Lent::of(&mut self.random, reading);
+        let mut answer = Lent::any(&mut self.random, 2);
+        let code = trials::check(
+            handed.sheet.slice(),
+            handed.entry.slice(),
+            case.asked,
+            lent.slice(),
+            answer.array(),
+        );
+        let (same, what) = match recognizer::check(case.question(), reading) {
+            Ok((outcome, end)) => (
+                code == 0 && answer.holds(&[recognizer::code(outcome), end]),
+                name(outcome),
+            ),
+            Err(number) => (code == 100 + number && answer.unchanged(), refused(number)),
+        };
+        let given = answer.slice();
+        assert!(
+            same && handed.unchanged() && lent.unchanged(),
+            "check: {code} {given:?}, not {what}\n{case}\n{}",
+            String::from_utf8_lossy(reading)
+        );
+        self.count("check", what);
+    }
+
+    /// A length around a limit, or of a few numbers.
+    fn around(&mut self, limit: usize) -> usize {
+        if self.random.one_in(4) {
+            return self.random.index(5);
+        }
+        (limit + self.random.index(5)).saturating_sub(2)
+    }
+
+    /// Lengths of table, work slice and output: two thirds of the time long enough.
+    fn lengths(&mut self, cells: usize) -> [usize; 3] {
+        let limits = [cells, cells, recognizer::LINE * cells];
+        if self.random.one_in(3) {
+            return limits.map(|limit| self.around(limit));
+        }
+        limits.map(|limit| limit + self.random.index(3))
+    }
+
+    /// Numbers for frames and a budget: around 3h and 2k - 1 where the pair has a derivation that is not too long to walk.
+    fn machine(&mut self, size: Option<Size>) -> (usize, u32) {
+        let random = &mut self.random;
+        let Some(Size { steps, height }) = size.filter(|size| size.steps < 20_000) else {
+            return (random.index(100), random.below(2000) as u32);
+        };
+        let (frames, moves) = (3 * height as usize, 2 * steps as u32 - 1);
+        let frames = match random.below(4) {
+            0 => random.index(5),
+            1 => frames + random.index(100),
+            _ => (frames + random.index(8)).saturating_sub(4),
+        };
+        let budget = match random.below(4) {
+            0 => random.below(5) as u32,
+            1 => u32::MAX - random.below(2) as u32,
+            _ => (moves + random.below(6) as u32).saturating_sub(3),
+        };
+        (frames, budget)
+    }
+
+    /// One question in every call: with slices of lengths around the limits, its own reading, and a changed one.
+    pub fn all(&mut self, case: &Case) {
+        let [table, work, output] = self.lengths(case.cells);
+        self.question(case, table, work);
+        self.verdict(case);
+        let (frames, budget) = self.machine(recognizer::size(case.question()));
+        self.run(case, frames, budget);
+        self.write(case, table, work, output);
+        let own = recognizer::reading(case.question()).unwrap_or_default();
+        self.check(case, &bytes(&own));
+        let changed = questions::reading(&mut self.random, case, &own);
+        self.check(case, &changed);
+    }
+
+    /// So many random questions; each answer and each refusal is met, and nothing else is.
+    pub fn many(&mut self, questions: u64) {
+        for _ in 0..questions {
+            let case = questions::case(&mut self.random);
+            self.all(&case);
+        }
+        let often = questions / 2000;
+        let mut possible = BTreeSet::new();
+        for (call, answers, refusals) in ANSWERS {
+            possible.extend(answers.iter().map(|what| (call, what.to_string())));
+            possible.extend(refusals.iter().map(|number| (call, refused(*number))));
+        }
+        for key in &possible {
+            let met = self.met.get(key).copied().unwrap_or(0);
+            let summary = self.summary();
+            assert!(met > often, "{key:?} is met {met} times only in\n{summary}");
+        }
+        let met: BTreeSet<_> = self.met.keys().cloned().collect();
+        assert_eq!(met, possible);
+    }
+
+    /// How often each answer and each refusal was met.
+    pub fn summary(&self) -> String {
+        let mut text = String::new();
+        for (call, _, _) in ANSWERS {
+            let of_call = self.met.iter().filter(|((of, _), _)| *of == call);
+            let (mut total, mut parts) = (0, Vec::new());
+            for ((_, what), met) in of_call {
+                total += met;
+                parts.push(format!("{what}: {met}"));
+            }
+            text += &format!("{call} {total}: {}\n", parts.join(", "));
+        }
+        text
+    }
+}
