@@ -1,7 +1,7 @@
 //! Each call beside the recognizer: what it returns, its answer, and every lent slice with the guards around it.
 use crate::lent::Lent;
 use crate::questions::{self, Case, Random};
-use crate::recognizer::{self, Answered, Ending, Outcome, Size, bytes, code};
+use crate::recognizer::{self, Answered, Ending, Outcome, Ran, Size, Written, bytes, code};
 use import::{Answer, Pair, Refusal, Verdict, trials};
 use std::collections::{BTreeMap, BTreeSet};
 
@@ -44,6 +44,10 @@ fn refused(number: u32) -> String {
     format!("refused {number:>2}")
 }
 
+fn refusal(number: u32) -> Refusal {
+    Refusal::from_number(number).expect("verdict and question have 1 to 10")
+}
+
 fn decided(cells: u32) -> String {
     let cells = match cells {
         0..2 => "1",
@@ -79,7 +83,7 @@ fn numbers(found: &Answered) -> [u32; 4] {
 fn answer(expected: &Result<Answered, u32>) -> Answer {
     let found = match expected {
         Ok(found) => found,
-        Err(number) => return Answer::Refused(Refusal::from_number(*number).expect("1 to 10")),
+        Err(number) => return Answer::Refused(refusal(*number)),
     };
     let cells = found.cells;
     let named = || found.named.expect("only success and failure name no pair");
@@ -101,6 +105,21 @@ fn answer(expected: &Result<Answered, u32>) -> Answer {
     }
 }
 
+/// The question as the program asks it.
+fn as_program(case: &Case, table: usize, work: usize, expected: &Result<Answered, u32>) {
+    let (mut table, mut work) = (vec![7; table], vec![7; work]);
+    let Pair { variable, place } = case.asked;
+    let found = import::question(
+        &case.sheet,
+        &case.entry,
+        variable,
+        place,
+        &mut table,
+        &mut work,
+    );
+    assert_eq!(found, answer(expected), "{case}");
+}
+
 /// Sheet and entry, lent for reading.
 struct Handed {
     sheet: Lent<u8>,
@@ -118,6 +137,50 @@ impl Handed {
     fn unchanged(&self) -> bool {
         self.sheet.unchanged() && self.entry.unchanged()
     }
+}
+
+/// Table, work slice, output and answer.
+struct Room {
+    table: Lent<u32>,
+    work: Lent<u32>,
+    output: Lent<u8>,
+    answer: Lent<u32>,
+}
+
+impl Room {
+    fn new(random: &mut Random, [table, work, output]: [usize; 3], answer: usize) -> Room {
+        Room {
+            table: Lent::any(random, table),
+            work: Lent::any(random, work),
+            output: Lent::any(random, output),
+            answer: Lent::any(random, answer),
+        }
+    }
+
+    /// Do answer, table and output hold what they are to hold, and everything else what it held?
+    fn holds(&self, answer: &[u32], table: &[u32], output: &[u8]) -> bool {
+        self.answer.holds(answer)
+            && self.table.holds(table)
+            && self.work.keeps_from(table.len())
+            && self.output.holds(output)
+    }
+
+    fn unchanged(&self) -> bool {
+        self.table.unchanged()
+            && self.work.unchanged()
+            && self.output.unchanged()
+            && self.answer.unchanged()
+    }
+}
+
+/// The numbers of a run's answer, and its name.
+fn ran(ran: Ran) -> ([u32; 3], String) {
+    let (code, end, what) = match ran.ending {
+        Ending::Outcome(found) => (code(found), end(found), name(found)),
+        Ending::Spent => (trials::SPENT, 0, "spent".to_string()),
+        Ending::NoFrame => (trials::NO_FRAME, 0, "no frame".to_string()),
+    };
+    ([code, end, ran.moves], what)
 }
 
 /// Compares calls with the recognizer, and counts what was met.
@@ -139,59 +202,36 @@ impl Comparison {
     }
 
     pub fn question(&mut self, case: &Case, table: usize, work: usize) {
-        let lengths = [table, work];
-        let expected = recognizer::question(case.question(), table, work);
         let mut handed = Handed::new(&mut self.random, case);
-        let mut table = Lent::any(&mut self.random, table);
-        let mut work = Lent::any(&mut self.random, work);
-        let mut answer = Lent::any(&mut self.random, 4);
-        let code = trials::question(
+        let mut room = Room::new(&mut self.random, [table, work, 0], 4);
+        let returned = trials::question(
             handed.sheet.slice(),
             handed.entry.slice(),
             case.asked.variable,
             case.asked.place,
-            table.slice(),
-            work.slice(),
-            answer.array(),
+            room.table.slice(),
+            room.work.slice(),
+            room.answer.array(),
         );
-        let (same, what) = match &expected {
+        let expected = recognizer::question(case.question(), table, work);
+        let (code, same, what) = match &expected {
             Ok(found) => (
-                code == 0
-                    && answer.holds(&numbers(found))
-                    && table.holds(&found.table)
-                    && work.keeps_from(found.table.len()),
+                0,
+                room.holds(&numbers(found), &found.table, &[]),
                 name(found.outcome),
             ),
-            Err(number) => (
-                code == 100 + number && answer.unchanged() && table.unchanged() && work.unchanged(),
-                refused(*number),
-            ),
+            Err(number) => (100 + number, room.unchanged(), refused(*number)),
         };
-        let given = answer.slice();
+        let answer = room.answer.slice();
         assert!(
-            same && handed.unchanged(),
-            "question over {lengths:?}: {code} {given:?}, not {what}\n{case}"
+            returned == code && same && handed.unchanged(),
+            "question over {table}, {work}: {returned} {answer:?}, not {what}\n{case}"
         );
         self.count("question", what);
         if let Ok(found) = &expected {
             self.count("cells", decided(found.cells));
         }
-        self.program(case, lengths, &expected);
-    }
-
-    /// The same question as the program asks it.
-    fn program(&mut self, case: &Case, lengths: [usize; 2], expected: &Result<Answered, u32>) {
-        let (mut table, mut work) = (vec![7; lengths[0]], vec![7; lengths[1]]);
-        let Pair { variable, place } = case.asked;
-        let found = import::question(
-            &case.sheet,
-            &case.entry,
-            variable,
-            place,
-            &mut table,
-            &mut work,
-        );
-        assert_eq!(found, answer(expected), "{case}");
+        as_program(case, table, work, &expected);
     }
 
     pub fn verdict(&mut self, case: &Case) {
@@ -199,10 +239,7 @@ impl Comparison {
         let found = import::verdict(handed.sheet.slice(), handed.entry.slice());
         let (expected, what) = match recognizer::verdict(&case.sheet, &case.entry) {
             Ok(verdict) => (verdict, format!("{verdict:?}")),
-            Err(number) => (
-                Verdict::Refused(Refusal::from_number(number).expect("1 to 10")),
-                refused(number),
-            ),
+            Err(number) => (Verdict::Refused(refusal(number)), refused(number)),
         };
         assert_eq!(found, expected, "verdict: {case}");
         assert!(handed.unchanged(), "verdict: {case}");
@@ -210,89 +247,61 @@ impl Comparison {
     }
 
     pub fn run(&mut self, case: &Case, frames: usize, budget: u32) {
-        let length = frames;
         let mut handed = Handed::new(&mut self.random, case);
-        let mut frames = Lent::any(&mut self.random, length);
+        let mut lent = Lent::any(&mut self.random, frames);
         let mut answer = Lent::any(&mut self.random, 3);
-        let code = trials::run(
+        let returned = trials::run(
             handed.sheet.slice(),
             handed.entry.slice(),
             case.asked,
-            frames.slice(),
+            lent.slice(),
             budget,
             answer.array(),
         );
-        let (same, what) = match recognizer::run(case.question(), length, budget) {
-            Ok(ran) => {
-                let (code_of, end, what) = match ran.ending {
-                    Ending::Outcome(found) => (recognizer::code(found), end(found), name(found)),
-                    Ending::Spent => (trials::SPENT, 0, "spent".to_string()),
-                    Ending::NoFrame => (trials::NO_FRAME, 0, "no frame".to_string()),
-                };
-                let numbers = [code_of, end, ran.moves];
-                (
-                    code == 0 && answer.holds(&numbers) && frames.keeps_from(length),
-                    what,
-                )
+        let (code, same, what) = match recognizer::run(case.question(), frames, budget) {
+            Ok(found) => {
+                let (numbers, what) = ran(found);
+                (0, answer.holds(&numbers) && lent.keeps_from(frames), what)
             }
             Err(number) => (
-                code == 100 + number && answer.unchanged() && frames.unchanged(),
+                100 + number,
+                answer.unchanged() && lent.unchanged(),
                 refused(number),
             ),
         };
-        let given = answer.slice();
+        let answer = answer.slice();
         assert!(
-            same && handed.unchanged(),
-            "run over {length} numbers with budget {budget}: {code} {given:?}, not {what}\n{case}"
+            returned == code && same && handed.unchanged(),
+            "run over {frames} numbers, budget {budget}: {returned} {answer:?}, not {what}\n{case}"
         );
         self.count("run", what);
     }
 
     pub fn write(&mut self, case: &Case, table: usize, work: usize, output: usize) {
-        let lengths = [table, work, output];
         let mut handed = Handed::new(&mut self.random, case);
-        let mut table = Lent::any(&mut self.random, table);
-        let mut work = Lent::any(&mut self.random, work);
-        let mut output = Lent::any(&mut self.random, output);
-        let mut answer = Lent::any(&mut self.random, 5);
-        let code = trials::write(
+        let mut room = Room::new(&mut self.random, [table, work, output], 5);
+        let returned = trials::write(
             handed.sheet.slice(),
             handed.entry.slice(),
             case.asked,
-            table.slice(),
-            work.slice(),
-            output.slice(),
-            answer.array(),
+            room.table.slice(),
+            room.work.slice(),
+            room.output.slice(),
+            room.answer.array(),
         );
-        let [for_table, for_work, for_output] = lengths;
-        let expected = recognizer::write(case.question(), for_table, for_work, for_output);
-        let (same, what) = match expected {
-            Ok(written) => {
-                let found = &written.answered;
-                let [cell, variable, place, cells] = numbers(found);
-                let lines = written.lines.len() as u32;
-                (
-                    code == 0
-                        && answer.holds(&[cell, variable, place, cells, lines])
-                        && table.holds(&found.table)
-                        && work.keeps_from(found.table.len())
-                        && output.holds(&bytes(&written.lines)),
-                    name(found.outcome),
-                )
+        let (code, same, what) = match recognizer::write(case.question(), table, work, output) {
+            Ok(Written { answered, lines }) => {
+                let mut five = numbers(&answered).to_vec();
+                five.push(lines.len() as u32);
+                let same = room.holds(&five, &answered.table, &bytes(&lines));
+                (0, same, name(answered.outcome))
             }
-            Err(number) => (
-                code == 100 + number
-                    && answer.unchanged()
-                    && table.unchanged()
-                    && work.unchanged()
-                    && output.unchanged(),
-                refused(number),
-            ),
+            Err(number) => (100 + number, room.unchanged(), refused(number)),
         };
-        let given = answer.slice();
+        let answer = room.answer.slice();
         assert!(
-            same && handed.unchanged(),
-            "write over {lengths:?}: {code} {given:?}, not {what}\n{case}"
+            returned == code && same && handed.unchanged(),
+            "write over {table}, {work}, {output}: {returned} {answer:?}, not {what}\n{case}"
         );
         self.count("write", what);
     }
@@ -301,24 +310,21 @@ impl Comparison {
         let mut handed = Handed::new(&mut self.random, case);
         let mut lent = Lent::of(&mut self.random, reading);
         let mut answer = Lent::any(&mut self.random, 2);
-        let code = trials::check(
+        let returned = trials::check(
             handed.sheet.slice(),
             handed.entry.slice(),
             case.asked,
             lent.slice(),
             answer.array(),
         );
-        let (same, what) = match recognizer::check(case.question(), reading) {
-            Ok((outcome, end)) => (
-                code == 0 && answer.holds(&[recognizer::code(outcome), end]),
-                name(outcome),
-            ),
-            Err(number) => (code == 100 + number && answer.unchanged(), refused(number)),
+        let (code, same, what) = match recognizer::check(case.question(), reading) {
+            Ok((outcome, end)) => (0, answer.holds(&[code(outcome), end]), name(outcome)),
+            Err(number) => (100 + number, answer.unchanged(), refused(number)),
         };
-        let given = answer.slice();
+        let answer = answer.slice();
         assert!(
-            same && handed.unchanged() && lent.unchanged(),
-            "check: {code} {given:?}, not {what}\n{case}\n{}",
+            returned == code && same && handed.unchanged() && lent.unchanged(),
+            "check: {returned} {answer:?}, not {what}\n{case}\n{}",
             String::from_utf8_lossy(reading)
         );
         self.count("check", what);
@@ -375,25 +381,26 @@ impl Comparison {
         self.check(case, &changed);
     }
 
-    /// So many random questions; each answer and each refusal is met, and nothing else is.
+    /// So many random questions.
     pub fn many(&mut self, questions: u64) {
         for _ in 0..questions {
             let case = questions::case(&mut self.random);
             self.all(&case);
         }
-        let often = questions / 2000;
+        self.assert_met(questions / 2000);
+    }
+
+    /// Each answer and each refusal was met more often than this, and nothing else was met.
+    fn assert_met(&self, often: u64) {
         let mut possible = BTreeSet::new();
         for (call, answers, refusals) in ANSWERS {
             possible.extend(answers.iter().map(|what| (call, what.to_string())));
             possible.extend(refusals.iter().map(|number| (call, refused(*number))));
         }
-        for key in &possible {
-            let met = self.met.get(key).copied().unwrap_or(0);
-            let summary = self.summary();
-            assert!(met > often, "{key:?} is met {met} times only in\n{summary}");
-        }
-        let met: BTreeSet<_> = self.met.keys().cloned().collect();
-        assert_eq!(met, possible);
+        let met_often = self.met.iter().filter(|(_, met)| **met > often);
+        let met_often: BTreeSet<_> = met_often.map(|(key, _)| key.clone()).collect();
+        assert_eq!(met_often, possible, "{}", self.summary());
+        assert_eq!(self.met.len(), possible.len(), "{}", self.summary());
     }
 
     /// How often each answer and each refusal was met.

@@ -3,8 +3,8 @@
 mod machine;
 mod reading;
 
-pub use machine::{Ending, run};
-pub use reading::{FIELDS, LINE, Line, bytes, check, reading, write};
+pub use machine::{Ending, Ran, run};
+pub use reading::{FIELDS, LINE, Line, Written, bytes, check, reading, write};
 
 use import::{Pair, Verdict};
 use std::collections::{HashMap, HashSet};
@@ -86,6 +86,23 @@ fn rule(variables: u32, kind: u32, operands: &[u32]) -> Option<Rule> {
     }
 }
 
+/// Line 1, without rules: refusals 2 and 3.
+fn header(bytes: &[u8]) -> Result<Sheet, u32> {
+    let numbers = line(bytes)?;
+    let (variables, start) = (numbers[0], numbers[1]);
+    let endmarker = u8::try_from(numbers[2]).map_err(|_| 3u32)?;
+    let in_range = (1..=256).contains(&variables) && (1..=variables).contains(&start);
+    if !in_range || numbers[3..] != [0, 0] {
+        return Err(3);
+    }
+    Ok(Sheet {
+        variables,
+        start,
+        endmarker,
+        rules: HashMap::new(),
+    })
+}
+
 /// Refusals 1 to 5, in their order.
 fn read(sheet: &[u8]) -> Result<Sheet, u32> {
     let lines: Vec<&[u8]> = sheet.chunks(26).collect();
@@ -95,34 +112,19 @@ fn read(sheet: &[u8]) -> Result<Sheet, u32> {
     {
         return Err(1);
     }
-    let first = line(lines[0])?;
-    let (variables, start, endmarker) = (first[0], first[1], u8::try_from(first[2]));
-    let (true, true, Ok(endmarker), [0, 0]) = (
-        (1..=256).contains(&variables),
-        (1..=variables).contains(&start),
-        endmarker,
-        [first[3], first[4]],
-    ) else {
-        return Err(3);
-    };
-    let mut rules = HashMap::new();
+    let mut sheet = header(lines[0])?;
     let mut before = 0;
     for bytes in &lines[1..] {
         let numbers = line(bytes)?;
         let variable = numbers[0];
-        if variable <= before || variable > variables {
+        if variable <= before || variable > sheet.variables {
             return Err(4);
         }
-        let found = rule(variables, numbers[1], &numbers[2..]).ok_or(5u32)?;
-        rules.insert(variable, found);
+        let found = rule(sheet.variables, numbers[1], &numbers[2..]).ok_or(5u32)?;
+        sheet.rules.insert(variable, found);
         before = variable;
     }
-    Ok(Sheet {
-        variables,
-        start,
-        endmarker,
-        rules,
-    })
+    Ok(sheet)
 }
 
 fn class(byte: u8) -> u32 {
