@@ -36,13 +36,14 @@ runCode (says o) = code o
 runCode spent = 10000
 runCode noFrame = 10001
 
+-- Where a success ends, else 0.
 abbrev pub outcomeEnd : Outcome → ℕ
 outcomeEnd (result (success q)) = q
 outcomeEnd (result failure) = 0
 outcomeEnd (stopped w) = 0
 outcomeEnd loop = 0
 
--- "the end on success", else 0.
+-- "the end on success", else 0, of a run.
 abbrev pub runEnd : RunOutcome → ℕ
 runEnd (says o) = outcomeEnd o
 runEnd spent = 0
