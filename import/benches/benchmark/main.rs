@@ -1,0 +1,509 @@
+//! Benchmarks of the proved calls beside Rust twins, LPeg and leg: `cargo bench --manifest-path import/Cargo.toml`.
+//!
+//! It prints the tables of docs/BENCHMARKS.md. valgrind, lua5.4, lua-lpeg and peg are Debian's packages; where valgrind is absent, its columns stay
+//! empty. With `--calls SUBJECT COUNT` it only makes the calls of one subject, which is what valgrind counts.
+mod fastest;
+mod machine;
+mod peers;
+mod plain;
+mod reading;
+mod sheets;
+mod timing;
+
+use import::{Pair, trials};
+use sheets::Question;
+use std::hint::black_box;
+use timing::Subject;
+
+/// What is asked in every question here.
+const ASKED: (u32, u32) = (1, 0);
+const PAIR: Pair = Pair {
+    variable: 1,
+    place: 0,
+};
+
+/// A table and a work slice of the cells that a question needs, at different offsets of a page.
+struct Room {
+    table: Vec<u32>,
+    work: Vec<u32>,
+    cells: usize,
+}
+
+impl Room {
+    fn new(question: &Question) -> Room {
+        let cells = question.cells();
+        Room {
+            table: vec![0; cells + 2048],
+            work: vec![0; cells + 2048],
+            cells,
+        }
+    }
+
+    fn slices(&mut self) -> (&mut [u32], &mut [u32]) {
+        (
+            &mut self.table[16..16 + self.cells],
+            &mut self.work[400..400 + self.cells],
+        )
+    }
+}
+
+type Call = fn(&[u8], &[u8], &mut [u32], &mut [u32]) -> [u32; 4];
+
+fn proved(sheet: &[u8], entry: &[u8], table: &mut [u32], work: &mut [u32]) -> [u32; 4] {
+    let mut answer = [0; 4];
+    let code = trials::question(sheet, entry, 1, 0, table, work, &mut answer);
+    assert_eq!(code, 0);
+    answer
+}
+
+fn plain_twin(sheet: &[u8], entry: &[u8], table: &mut [u32], work: &mut [u32]) -> [u32; 4] {
+    plain::question(sheet, entry, ASKED, table, work)
+}
+
+fn fastest_twin(sheet: &[u8], entry: &[u8], table: &mut [u32], work: &mut [u32]) -> [u32; 4] {
+    fastest::question(sheet, entry, ASKED, table, work)
+}
+
+const CALLS: [(&str, Call); 3] = [
+    ("proved", proved),
+    ("plain", plain_twin),
+    ("fastest", fastest_twin),
+];
+
+fn questions() -> [Question; 3] {
+    [
+        sheets::letters(4000),
+        sheets::brackets(4000),
+        sheets::wide(200, 1000),
+    ]
+}
+
+/// A call of a question, so many times.
+fn asking<'a>(name: &'static str, call: Call, question: &'a Question) -> Subject<'a> {
+    let mut room = Room::new(question);
+    let run = move |calls| {
+        let (table, work) = room.slices();
+        for _ in 0..calls {
+            black_box(call(&question.sheet, &question.entry, table, work));
+        }
+    };
+    (name, Box::new(run))
+}
+
+/// The count of decided cells, on which all three agree.
+fn decided(question: &Question) -> f64 {
+    let answers = CALLS.map(|(_, call)| {
+        let mut room = Room::new(question);
+        let (table, work) = room.slices();
+        call(&question.sheet, &question.entry, table, work)
+    });
+    assert!(
+        answers.iter().all(|answer| *answer == answers[0]),
+        "{}",
+        question.name
+    );
+    answers[0][3].into()
+}
+
+fn counted(instructions: Option<f64>, units: f64) -> String {
+    instructions.map_or(String::from("-"), |count| format!("{:.1}", count / units))
+}
+
+fn question_table() {
+    println!("\n## Question, for each decided cell\n");
+    println!(
+        "| question | cells, decided | proved, ns | plain twin, ns | fastest, ns | of plain | of fastest | instructions: proved | plain | fastest |"
+    );
+    println!("|---|---|---|---|---|---|---|---|---|---|");
+    for (i, question) in questions().iter().enumerate() {
+        let cells = decided(question);
+        let mut subjects: Vec<Subject> = CALLS
+            .iter()
+            .map(|(name, call)| asking(name, *call, question))
+            .collect();
+        let times = timing::medians(&mut subjects);
+        let counts = CALLS.map(|(name, _)| timing::instructions(&format!("{i}/{name}")));
+        println!(
+            "| {} | {}, {:.0} % | {:.2} | {:.2} | {:.2} | {:.2} | {:.2} | {} | {} | {} |",
+            question.name,
+            question.cells(),
+            100.0 * cells / question.cells() as f64,
+            times[0] / cells,
+            times[1] / cells,
+            times[2] / cells,
+            times[0] / times[1],
+            times[0] / times[2],
+            counted(counts[0], cells),
+            counted(counts[1], cells),
+            counted(counts[2], cells),
+        );
+    }
+}
+
+/// Sheet reading alone: a place beyond the entry is refused once the sheet is read.
+fn read_proved(sheet: &[u8]) {
+    let code = trials::question(sheet, b"", 1, 1, &mut [], &mut [], &mut [0; 4]);
+    assert_eq!(code, 109);
+}
+
+fn read_subject<'a>(name: &'static str, sheet: &'a [u8]) -> Subject<'a> {
+    let run = move |calls| {
+        for _ in 0..calls {
+            if name == "proved" {
+                read_proved(black_box(sheet));
+            } else {
+                black_box(plain::read(black_box(sheet)));
+            }
+        }
+    };
+    (name, Box::new(run))
+}
+
+fn import_table() {
+    println!("\n## One entry of a register, sheet reading included\n");
+    println!(
+        "| rules | bytes | cells, decided | proved, ns | plain twin, ns | of plain | sheet: proved, ns | plain, ns | of proved | instructions a field: proved | plain |"
+    );
+    println!("|---|---|---|---|---|---|---|---|---|---|---|");
+    for rules in [60, 250] {
+        let mut counts = None;
+        for bytes in [20, 50, 80] {
+            let question = sheets::register(rules, bytes);
+            let cells = decided(&question);
+            let mut subjects = vec![
+                asking("proved", proved, &question),
+                asking("plain", plain_twin, &question),
+                read_subject("proved", &question.sheet),
+                read_subject("plain", &question.sheet),
+            ];
+            let times = timing::medians(&mut subjects);
+            let fields = (question.sheet.len() / 26 * 5) as f64;
+            let [ours, twin] = *counts.get_or_insert_with(|| {
+                ["proved", "plain"].map(|name| timing::instructions(&format!("read{rules}/{name}")))
+            });
+            println!(
+                "| {rules} | {bytes} | {}, {cells:.0} | {:.0} | {:.0} | {:.2} | {:.0} | {:.0} | {:.0} % | {} | {} |",
+                question.cells(),
+                times[0],
+                times[1],
+                times[0] / times[1],
+                times[2],
+                times[3],
+                100.0 * times[2] / times[0],
+                counted(ours, fields),
+                counted(twin, fields),
+            );
+        }
+    }
+    println!(
+        "\nThe exported verdict has 1,024 cells of its own, so that 12 rules are the most for 80 bytes:\n"
+    );
+    println!("| rules | bytes | verdict, ns |");
+    println!("|---|---|---|");
+    for bytes in [20, 50, 80] {
+        let question = sheets::register(12, bytes);
+        let run = |calls| {
+            for _ in 0..calls {
+                let verdict = import::verdict(&question.sheet, &question.entry);
+                assert!(!matches!(verdict, import::Verdict::Refused(_)));
+                black_box(verdict);
+            }
+        };
+        let times = timing::medians(&mut [("verdict", Box::new(run))]);
+        println!("| 12 | {bytes} | {:.0} |", times[0]);
+    }
+}
+
+fn growth_table() {
+    println!("\n## Growth: nanoseconds for each cell of the table, blanking included\n");
+    let lengths = [64, 128, 256, 512, 1024, 2048, 4096];
+    println!(
+        "| V | {} | greatest / least |",
+        lengths.map(|n| format!("{n} bytes")).join(" | ")
+    );
+    println!("|---|{}---|", "---|".repeat(lengths.len()));
+    for wide in [false, true] {
+        let questions = lengths.map(|n| {
+            if wide {
+                sheets::wide(200, n)
+            } else {
+                sheets::letters(n)
+            }
+        });
+        let mut subjects: Vec<Subject> = questions
+            .iter()
+            .map(|q| asking("proved", proved, q))
+            .collect();
+        let times = timing::medians(&mut subjects);
+        let each: Vec<f64> = times
+            .iter()
+            .zip(&questions)
+            .map(|(t, q)| t / q.cells() as f64)
+            .collect();
+        let (least, greatest) = each
+            .iter()
+            .fold((f64::MAX, 0f64), |(l, g), x| (l.min(*x), g.max(*x)));
+        println!(
+            "| {} | {} | {:.2} |",
+            questions[0].variables(),
+            each.iter()
+                .map(|x| format!("{x:.2}"))
+                .collect::<Vec<_>>()
+                .join(" | "),
+            greatest / least
+        );
+    }
+}
+
+fn peers_table() {
+    let entries = sheets::dates(1000);
+    let bytes: usize = entries.iter().map(Vec::len).sum();
+    let sheet = sheets::dates_sheet();
+    let peers = peers::Peers::new(&entries);
+    let longest = entries.iter().map(Vec::len).max().expect("an entry");
+    let variables: usize = std::str::from_utf8(&sheet[..5])
+        .expect("digits")
+        .trim()
+        .parse()
+        .expect("a number");
+    let mut room = vec![0; 2 * variables * (longest + 1) + 400];
+    let mut times = [const { Vec::new() }; 3];
+    for _ in 0..11 {
+        let start = std::time::Instant::now();
+        for entry in &entries {
+            let (table, work) = room.split_at_mut(variables * (longest + 1) + 16);
+            let [code, ..] = proved(&sheet, entry, table, work);
+            assert_eq!(code as usize, 5 + entry.len());
+        }
+        times[0].push(start.elapsed().as_nanos() as f64);
+        times[1].push(peers.lpeg_dates(20));
+        times[2].push(peers.leg_dates(20));
+    }
+    println!(
+        "\n## Dates and ages: 1,000 entries of {:.0} bytes on average, {variables} rules\n",
+        bytes as f64 / 1000.0
+    );
+    println!("| | an entry, ns | a byte, ns |");
+    println!("|---|---|---|");
+    for (name, times) in [
+        "proved question, the sheet read and the table blanked for each entry",
+        "LPeg",
+        "leg",
+    ]
+    .iter()
+    .zip(&mut times)
+    {
+        let time = timing::median(times);
+        println!(
+            "| {name} | {:.0} | {:.1} |",
+            time / 1000.0,
+            time / bytes as f64
+        );
+    }
+    levels_table(&peers);
+}
+
+fn levels_table(peers: &peers::Peers) {
+    println!(
+        "\n## Rules that make a recognizer without a table take twice as long for each level\n"
+    );
+    println!("| levels | proved question, us | LPeg, us | leg, us |");
+    println!("|---|---|---|---|");
+    for depth in [4, 8, 12, 16, 20, 24] {
+        let question = sheets::levels(depth);
+        assert_eq!(decided(&question), f64::from(2 * depth + 2));
+        let times = timing::medians(&mut [asking("proved", proved, &question)]);
+        println!(
+            "| {depth} | {:.1} | {:.1} | {:.1} |",
+            times[0] / 1e3,
+            peers.lpeg_levels(depth) / 1e3,
+            peers.leg_levels(depth) / 1e3
+        );
+    }
+}
+
+fn machine_row() {
+    let question = sheets::letters(4000);
+    let mut frames = vec![0; 3 * 4100];
+    let mut answer = [0; 3];
+    assert_eq!(
+        trials::run(
+            &question.sheet,
+            &question.entry,
+            PAIR,
+            &mut frames,
+            u32::MAX,
+            &mut answer
+        ),
+        0
+    );
+    assert_eq!(
+        answer,
+        machine::run(
+            &question.sheet,
+            &question.entry,
+            ASKED,
+            &mut frames,
+            u32::MAX
+        )
+    );
+    let moves = f64::from(answer[2]);
+    let mut other = frames.clone();
+    let q = &question;
+    let mut subjects: Vec<Subject> = vec![
+        (
+            "proved",
+            Box::new(move |calls| {
+                for _ in 0..calls {
+                    trials::run(&q.sheet, &q.entry, PAIR, &mut frames, u32::MAX, &mut answer);
+                }
+            }),
+        ),
+        (
+            "twin",
+            Box::new(move |calls| {
+                for _ in 0..calls {
+                    black_box(machine::run(
+                        &q.sheet,
+                        &q.entry,
+                        ASKED,
+                        &mut other,
+                        u32::MAX,
+                    ));
+                }
+            }),
+        ),
+    ];
+    let times = timing::medians(&mut subjects);
+    row("machine, moves", moves, &times);
+}
+
+fn row(name: &str, units: f64, times: &[f64]) {
+    println!(
+        "| {name} | {:.0} | {:.0} | {:.2} |",
+        1e3 * units / times[0],
+        1e3 * units / times[1],
+        times[0] / times[1]
+    );
+}
+
+fn reading_rows() {
+    let question = sheets::brackets(2000);
+    let q = &question;
+    let mut output = vec![0; 49 * question.cells()];
+    let (mut room, mut other_room) = (Room::new(q), Room::new(q));
+    let mut answer = [0; 5];
+    let (table, work) = room.slices();
+    assert_eq!(
+        trials::write(
+            &q.sheet,
+            &q.entry,
+            PAIR,
+            table,
+            work,
+            &mut output,
+            &mut answer
+        ),
+        0
+    );
+    let lines = answer[4];
+    let reading = output[..49 * lines as usize].to_vec();
+    let mut other = vec![0; output.len()];
+    let (table, work) = other_room.slices();
+    assert_eq!(
+        lines,
+        reading::write(&q.sheet, &q.entry, ASKED, table, work, &mut other)
+    );
+    assert!(other[..reading.len()] == reading);
+    let mut claimed = [0; 2];
+    assert_eq!(
+        trials::check(&q.sheet, &q.entry, PAIR, &reading, &mut claimed),
+        0
+    );
+    assert_eq!(
+        Some(claimed[0]),
+        reading::check(&q.sheet, &q.entry, ASKED, &reading)
+    );
+    let r = &reading;
+    let mut subjects: Vec<Subject> = vec![
+        (
+            "writer",
+            Box::new(move |calls| {
+                let (table, work) = room.slices();
+                for _ in 0..calls {
+                    trials::write(
+                        &q.sheet,
+                        &q.entry,
+                        PAIR,
+                        table,
+                        work,
+                        &mut output,
+                        &mut answer,
+                    );
+                }
+            }),
+        ),
+        (
+            "writer's twin",
+            Box::new(move |calls| {
+                let (table, work) = other_room.slices();
+                for _ in 0..calls {
+                    black_box(reading::write(
+                        &q.sheet, &q.entry, ASKED, table, work, &mut other,
+                    ));
+                }
+            }),
+        ),
+        (
+            "checker",
+            Box::new(move |calls| {
+                for _ in 0..calls {
+                    trials::check(&q.sheet, &q.entry, PAIR, r, &mut claimed);
+                }
+            }),
+        ),
+        (
+            "checker's twin",
+            Box::new(move |calls| {
+                for _ in 0..calls {
+                    black_box(reading::check(&q.sheet, &q.entry, ASKED, r));
+                }
+            }),
+        ),
+    ];
+    let times = timing::medians(&mut subjects);
+    row("writer, lines", lines.into(), &times[..2]);
+    row("checker, lines", lines.into(), &times[2..]);
+}
+
+/// Makes the calls of one subject, `0/proved` or `read60/plain`.
+fn only_calls(subject: &str, calls: usize) {
+    let (part, name) = subject.split_once('/').expect("a part and a name");
+    if let Some(rules) = part.strip_prefix("read") {
+        let question = sheets::register(rules.parse().expect("a number"), 80);
+        let name = if name == "proved" { "proved" } else { "plain" };
+        return (read_subject(name, &question.sheet).1)(calls);
+    }
+    let question = &questions()[part.parse::<usize>().expect("a number")];
+    let (name, call) = *CALLS.iter().find(|call| call.0 == name).expect("a call");
+    (asking(name, call, question).1)(calls);
+}
+
+fn main() {
+    let arguments: Vec<String> = std::env::args().collect();
+    if let Some(at) = arguments.iter().position(|word| word == "--calls") {
+        return only_calls(
+            &arguments[at + 1],
+            arguments[at + 2].parse().expect("a number"),
+        );
+    }
+    question_table();
+    import_table();
+    growth_table();
+    println!("\n## Machine, writer and checker, millions a second\n");
+    println!("| | proved | twin | time, of the twin's |");
+    println!("|---|---|---|---|");
+    machine_row();
+    reading_rows();
+    peers_table();
+}

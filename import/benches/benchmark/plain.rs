@@ -1,0 +1,166 @@
+//! An idiomatic Rust twin of the plain algorithm, written without the Rattle source: a rule is an enum, a caller is a link in the work slice, and a
+//! leaf takes one step to open and one to settle. Sheet reading, blanking and counting are included, as in the proved call.
+
+#[derive(Clone, Copy)]
+pub enum Rule {
+    Absent,
+    Always,
+    Never,
+    Byte(u8),
+    Class(u8),
+    Calls(u32, u32, u32),
+}
+
+pub struct Sheet {
+    pub variables: u32,
+    pub rules: [Rule; 256],
+}
+
+pub fn class(byte: u8) -> u8 {
+    match byte {
+        b'0'..=b'9' => 1,
+        b'A'..=b'Z' => 2,
+        b'a'..=b'z' => 3,
+        b'\t' | b' ' => 4,
+        33..=126 => 5,
+        128..=255 => 6,
+        _ => 0,
+    }
+}
+
+fn field(columns: &[u8]) -> Option<u32> {
+    let first = columns.iter().position(|b| *b != b' ')?;
+    let digits = &columns[first..];
+    if digits.len() > 1 && digits[0] == b'0' {
+        return None;
+    }
+    digits.iter().try_fold(0, |number, digit| {
+        digit
+            .is_ascii_digit()
+            .then(|| number * 10 + u32::from(digit - b'0'))
+    })
+}
+
+fn fields(line: &[u8]) -> Option<[u32; 5]> {
+    let mut numbers = [0; 5];
+    for (number, columns) in numbers.iter_mut().zip(line.chunks_exact(5)) {
+        *number = field(columns)?;
+    }
+    Some(numbers)
+}
+
+/// The sheet, or nothing where it is refused.
+pub fn read(text: &[u8]) -> Option<Sheet> {
+    let lines = text.chunks_exact(26);
+    if text.is_empty() || text.len() % 26 != 0 || text.len() > 257 * 26 {
+        return None;
+    }
+    if lines.clone().any(|line| line[25] != b'\n') {
+        return None;
+    }
+    let [variables, start, endmarker, 0, 0] = fields(&text[..25])? else {
+        return None;
+    };
+    if !(1..=256).contains(&variables) || !(1..=variables).contains(&start) || endmarker > 255 {
+        return None;
+    }
+    let mut rules = [Rule::Absent; 256];
+    let mut before = 0;
+    for line in lines.skip(1) {
+        let [variable, kind, x, y, z] = fields(&line[..25])?;
+        if variable <= before || variable > variables {
+            return None;
+        }
+        before = variable;
+        let within = |x: u32| (1..=variables).contains(&x);
+        rules[variable as usize - 1] = match (kind, x, y, z) {
+            (0, 0, 0, 0) => Rule::Always,
+            (1, 0, 0, 0) => Rule::Never,
+            (2, byte @ 0..=255, 0, 0) => Rule::Byte(byte as u8),
+            (3, class @ 1..=6, 0, 0) => Rule::Class(class as u8),
+            (4, b, c, d) if within(b) && within(c) && within(d) => Rule::Calls(b, c, d),
+            _ => return None,
+        };
+    }
+    Some(Sheet { variables, rules })
+}
+
+const OPEN: u32 = u32::MAX;
+
+/// A rule's outcome where it calls nothing: a cell's code, 3 and 4 for missing and end.
+pub fn leaf(rule: Rule, entry: &[u8], place: u32) -> u32 {
+    let fits = |wanted: bool| if wanted { 6 + place } else { 1 };
+    match (rule, entry.get(place as usize)) {
+        (Rule::Always, _) => 5 + place,
+        (Rule::Never, _) => 1,
+        (Rule::Byte(wanted), Some(byte)) => fits(*byte == wanted),
+        (Rule::Class(wanted), Some(byte)) => fits(class(*byte) == wanted),
+        (Rule::Byte(_) | Rule::Class(_), None) => 4,
+        (Rule::Absent | Rule::Calls(..), _) => 3,
+    }
+}
+
+/// The cell's code, the named pair and the count.
+pub fn question(
+    sheet: &[u8],
+    entry: &[u8],
+    asked: (u32, u32),
+    table: &mut [u32],
+    work: &mut [u32],
+) -> [u32; 4] {
+    let sheet = read(sheet).expect("an accepted sheet");
+    let width = entry.len() + 1;
+    let size = sheet.variables as usize * width;
+    let (table, work) = (&mut table[..size], &mut work[..size]);
+    table.fill(0);
+    let cell = |(variable, place): (u32, u32)| (variable as usize - 1) * width + place as usize;
+    let caller = |link: u32| (link / 8192, link % 8192);
+    let mut top = asked;
+    table[cell(top)] = OPEN;
+    let (code, named) = loop {
+        let value = match sheet.rules[top.0 as usize - 1] {
+            Rule::Calls(b, c, d) => {
+                let mut called = (b, top.1);
+                let mut value = table[cell(called)];
+                if value != 0 && value != OPEN {
+                    called = if value == 1 {
+                        (d, top.1)
+                    } else {
+                        (c, value - 5)
+                    };
+                    value = table[cell(called)];
+                }
+                if value == OPEN {
+                    break (2, called);
+                }
+                if value == 0 {
+                    table[cell(called)] = OPEN;
+                    work[cell(called)] = top.0 * 8192 + top.1;
+                    top = called;
+                    continue;
+                }
+                value
+            }
+            rule => match leaf(rule, entry, top.1) {
+                stop @ 3..=4 => break (stop, top),
+                value => value,
+            },
+        };
+        table[cell(top)] = value;
+        if top == asked {
+            break (value, (0, 0));
+        }
+        top = caller(work[cell(top)]);
+    };
+    if (2..=4).contains(&code) {
+        loop {
+            table[cell(top)] = code;
+            if top == asked {
+                break;
+            }
+            top = caller(work[cell(top)]);
+        }
+    }
+    let count = table.iter().filter(|cell| **cell != 0).count();
+    [code, named.0, named.1, count as u32]
+}
