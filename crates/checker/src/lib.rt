@@ -54,37 +54,43 @@ enum Tested {
     Refused(u32, usize),
 }
 
-// The fields of the line that begins at a position.
+// The six fields of a line, one after another.
+fn read_fields(line: &[u8]) -> Parsed
+    ensures { λ r. ⌜ lineRead r ≡ lineFrom (fields 6 8 (now (line .entry)) 0) ⌝ }
+{
+    let mut numbers = [0u32; 6];
+    let mut at: usize = 0;
+    let mut k: usize = 0;
+    while k < 6 {
+        let here = Cursor { at };
+        let Field::Number(x, next) = here.eight(line) else {
+            return Parsed::Malformed;
+        };
+        numbers[k] = x;
+        at = next.at;
+        k += 1;
+    }
+    Parsed::Read(Line {
+        variable: numbers[0],
+        start: numbers[1],
+        outcome: numbers[2],
+        end: numbers[3],
+        first: numbers[4],
+        second: numbers[5],
+    })
+}
+
+// The fields of the line that begins at a position. They are read from a part of 48 columns, so that the compiler knows them to be there.
 fn read_line(certificate: &[u8], from: usize) -> Parsed
     ensures { λ r. ⌜ lineRead r ≡ lineFrom (fields 6 8 (now (certificate .entry)) from) ⌝ }
 {
-    let cursor = Cursor { at: from };
-    let Field::Number(variable, second_field) = cursor.eight(certificate) else {
+    if certificate.len() < 48 {
         return Parsed::Malformed;
-    };
-    let Field::Number(start, third_field) = second_field.eight(certificate) else {
+    }
+    if certificate.len() - 48 < from {
         return Parsed::Malformed;
-    };
-    let Field::Number(outcome, fourth_field) = third_field.eight(certificate) else {
-        return Parsed::Malformed;
-    };
-    let Field::Number(end, fifth_field) = fourth_field.eight(certificate) else {
-        return Parsed::Malformed;
-    };
-    let Field::Number(first, sixth_field) = fifth_field.eight(certificate) else {
-        return Parsed::Malformed;
-    };
-    let Field::Number(second, _) = sixth_field.eight(certificate) else {
-        return Parsed::Malformed;
-    };
-    Parsed::Read(Line {
-        variable,
-        start,
-        outcome,
-        end,
-        first,
-        second,
-    })
+    }
+    read_fields(&certificate[from..from + 48])
 }
 
 // The line of a number.

@@ -1,6 +1,6 @@
 -- What the answer of a field says, and how fields in a row are read one by one. Assumes nothing.
 use mathlib.Core.Path.{_≡_, refl, ap, sym, _∙_}
-use mathlib.Core.List.{List, []}
+use mathlib.Core.List.{List}
 use mathlib.Core.Option.{Option, none, some, Option·map, Option·some-injective, Option·none-ne-some}
 use Prim.Native.Nat.{ℕ, suc, _+_}
 use Rattle.columns.specs.Column.{field, fields, consTo, reads, told}
@@ -60,7 +60,3 @@ module _ (w : ℕ) (s : List ℕ) where
   row-more {k} {at} {x} f r = record {
     row = ap (λ (o : Option ℕ). consTo o (fields k w s (at + w))) (f .number) ∙ ap (consTo (some x)) (ap (fields k w s) (sym (f .position)) ∙ r .row);
   }
-
-  pub row-none : (at : ℕ) → Row 0 at (some [])
-  unfolding fields
-  row-none at = record { row = refl }

@@ -4,3 +4,4 @@ pub mod Writing
 pub mod RoundTrip
 pub mod Rows
 pub mod Fields
+pub mod Parts

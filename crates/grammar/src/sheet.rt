@@ -58,27 +58,36 @@ enum RuleLines {
     Refused(u32, u32),
 }
 
-// The fields of the line that begins at a position.
+// The five fields of a line, one after another.
+fn read_fields(line: &[u8]) -> Line
+    ensures { λ r. ⌜ numbersOf r ≡ fields 5 5 (now (line .entry)) 0 ⌝ }
+{
+    let mut numbers = [0u32; 5];
+    let mut at: usize = 0;
+    let mut k: usize = 0;
+    while k < 5 {
+        let here = Cursor { at };
+        let Field::Number(x, next) = here.five(line) else {
+            return Line::Malformed;
+        };
+        numbers[k] = x;
+        at = next.at;
+        k += 1;
+    }
+    Line::Numbers(numbers[0], numbers[1], numbers[2], numbers[3], numbers[4])
+}
+
+// The fields of the line that begins at a position. They are read from a part of 25 columns, so that the compiler knows them to be there.
 fn read_line(s: &[u8], at: usize) -> Line
     ensures { λ r. ⌜ numbersOf r ≡ fields 5 5 (now (s .entry)) at ⌝ }
 {
-    let start = Cursor { at };
-    let Field::Number(a, second) = start.five(s) else {
+    if s.len() < 25 {
         return Line::Malformed;
-    };
-    let Field::Number(b, third) = second.five(s) else {
+    }
+    if s.len() - 25 < at {
         return Line::Malformed;
-    };
-    let Field::Number(c, fourth) = third.five(s) else {
-        return Line::Malformed;
-    };
-    let Field::Number(d, fifth) = fourth.five(s) else {
-        return Line::Malformed;
-    };
-    let Field::Number(e, _) = fifth.five(s) else {
-        return Line::Malformed;
-    };
-    Line::Numbers(a, b, c, d, e)
+    }
+    read_fields(&s[at..at + 25])
 }
 
 // Is there a line without byte 10 at its end?
