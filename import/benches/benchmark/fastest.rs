@@ -39,24 +39,6 @@ unsafe fn leaf(word: u32, entry: &[u8], place: u32) -> u32 {
     }
 }
 
-/// The cell's code, the named pair and the count.
-pub fn question(
-    sheet: &[u8],
-    entry: &[u8],
-    asked: (u32, u32),
-    table: &mut [u32],
-    work: &mut [u32],
-) -> [u32; 4] {
-    let sheet = plain::read(sheet).expect("an accepted sheet");
-    let words = sheet.rules.map(word);
-    let width = entry.len() + 1;
-    let size = sheet.variables as usize * width;
-    assert!(size <= table.len() && size <= work.len());
-    table[..size].fill(0);
-    // SAFETY: variables are below V, places at most the entry's length, and open cells distinct, so that no more than V times (n + 1) callers are noted.
-    unsafe { walk(&words, entry, (asked.0 - 1, asked.1), table, work) }
-}
-
 /// Looks a called pair up; if it is to be opened it becomes the latest open pair, and the walk goes on with it.
 macro_rules! look_up {
     ($walk:lifetime, $state:expr, $called:expr) => {{
@@ -87,6 +69,16 @@ macro_rules! look_up {
     }};
 }
 
+/// Where the walk ended: the code and the named pair, the latest open pair, the number of its callers, and the count of cells.
+struct End {
+    code: u32,
+    named: (u32, u32),
+    top: (u32, u32),
+    depth: usize,
+    count: u32,
+}
+
+/// From the asked pair, whose rule calls others and whose cell is open.
 #[inline(always)]
 unsafe fn walk(
     words: &[u32; 256],
@@ -94,43 +86,41 @@ unsafe fn walk(
     asked: (u32, u32),
     table: &mut [u32],
     work: &mut [u32],
-) -> [u32; 4] {
+) -> End {
     unsafe {
         let width = entry.len() + 1;
-        let cell = |(variable, place): (u32, u32)| variable as usize * width + place as usize;
-        let mut top = asked;
-        let mut count = 1;
-        if words[top.0 as usize] >> 24 != 5 {
-            let code = leaf(words[top.0 as usize], entry, top.1);
-            table[cell(top)] = code;
-            let named = if code == 3 || code == 4 {
-                (top.0 + 1, top.1)
-            } else {
-                (0, 0)
-            };
-            return [code, named.0, named.1, 1];
-        }
-        table[cell(top)] = OPEN;
-        let mut depth = 0;
+        let (mut top, mut depth, mut count) = (asked, 0, 1);
         let (code, named) = 'walk: loop {
             let word = *words.get_unchecked(top.0 as usize);
-            let first_called = (word >> 16 & 255, top.1);
-            let first = look_up!(
-                'walk,
-                (words, entry, &mut *table, &mut *work, width, &mut top, &mut depth, &mut count),
-                first_called
+            let called = (word >> 16 & 255, top.1);
+            let state = (
+                words,
+                entry,
+                &mut *table,
+                &mut *work,
+                width,
+                &mut top,
+                &mut depth,
+                &mut count,
             );
-            let second = if first == 1 {
+            let first = look_up!('walk, state, called);
+            let called = if first == 1 {
                 (word & 255, top.1)
             } else {
                 (word >> 8 & 255, first - 5)
             };
-            let value = look_up!(
-                'walk,
-                (words, entry, &mut *table, &mut *work, width, &mut top, &mut depth, &mut count),
-                second
+            let state = (
+                words,
+                entry,
+                &mut *table,
+                &mut *work,
+                width,
+                &mut top,
+                &mut depth,
+                &mut count,
             );
-            *table.get_unchecked_mut(cell(top)) = value;
+            let value = look_up!('walk, state, called);
+            *table.get_unchecked_mut(top.0 as usize * width + top.1 as usize) = value;
             if depth == 0 {
                 break (value, (0, 0));
             }
@@ -138,16 +128,41 @@ unsafe fn walk(
             let caller = *work.get_unchecked(depth);
             top = (caller >> 13, caller & 8191);
         };
-        if (2..=4).contains(&code) {
-            loop {
-                table[cell(top)] = code;
-                if depth == 0 {
-                    break;
-                }
-                depth -= 1;
-                top = (work[depth] >> 13, work[depth] & 8191);
-            }
+        End {
+            code,
+            named,
+            top,
+            depth,
+            count,
         }
-        [code, named.0, named.1, count]
     }
+}
+
+/// The cell's code, the named pair and the count.
+pub fn question(
+    sheet: &[u8],
+    entry: &[u8],
+    asked: (u32, u32),
+    table: &mut [u32],
+    work: &mut [u32],
+) -> [u32; 4] {
+    let sheet = plain::read(sheet).expect("an accepted sheet");
+    let words = sheet.rules.map(word);
+    let width = entry.len() + 1;
+    let size = sheet.variables as usize * width;
+    assert!(size <= table.len() && size <= work.len());
+    table[..size].fill(0);
+    let asked = (asked.0 - 1, asked.1);
+    let cell = |(variable, place): (u32, u32)| variable as usize * width + place as usize;
+    assert!(words[asked.0 as usize] >> 24 == 5, "a rule that calls");
+    table[cell(asked)] = OPEN;
+    // SAFETY: variables are below V, places at most the entry's length, and open cells distinct, so that no more than V times (n + 1) callers are noted.
+    let end = unsafe { walk(&words, entry, asked, table, work) };
+    if (2..=4).contains(&end.code) {
+        table[cell(end.top)] = end.code;
+        for caller in &work[..end.depth] {
+            table[cell((caller >> 13, caller & 8191))] = end.code;
+        }
+    }
+    [end.code, end.named.0, end.named.1, end.count]
 }

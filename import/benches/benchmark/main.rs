@@ -322,158 +322,87 @@ fn levels_table(peers: &peers::Peers) {
     }
 }
 
-fn machine_row() {
-    let question = sheets::letters(4000);
-    let mut frames = vec![0; 3 * 4100];
-    let mut answer = [0; 3];
-    assert_eq!(
-        trials::run(
-            &question.sheet,
-            &question.entry,
-            PAIR,
-            &mut frames,
-            u32::MAX,
-            &mut answer
-        ),
-        0
-    );
-    assert_eq!(
-        answer,
-        machine::run(
-            &question.sheet,
-            &question.entry,
-            ASKED,
-            &mut frames,
-            u32::MAX
-        )
-    );
-    let moves = f64::from(answer[2]);
-    let mut other = frames.clone();
-    let q = &question;
-    let mut subjects: Vec<Subject> = vec![
-        (
-            "proved",
-            Box::new(move |calls| {
-                for _ in 0..calls {
-                    trials::run(&q.sheet, &q.entry, PAIR, &mut frames, u32::MAX, &mut answer);
-                }
-            }),
-        ),
-        (
-            "twin",
-            Box::new(move |calls| {
-                for _ in 0..calls {
-                    black_box(machine::run(
-                        &q.sheet,
-                        &q.entry,
-                        ASKED,
-                        &mut other,
-                        u32::MAX,
-                    ));
-                }
-            }),
-        ),
-    ];
-    let times = timing::medians(&mut subjects);
-    row("machine, moves", moves, &times);
-}
-
-fn row(name: &str, units: f64, times: &[f64]) {
+/// A row of two subjects, proved and twin, with so many units a call.
+fn row(name: &str, units: u32, subjects: &mut [Subject]) {
+    let times = timing::medians(subjects);
     println!(
         "| {name} | {:.0} | {:.0} | {:.2} |",
-        1e3 * units / times[0],
-        1e3 * units / times[1],
+        1e3 * f64::from(units) / times[0],
+        1e3 * f64::from(units) / times[1],
         times[0] / times[1]
     );
 }
 
-fn reading_rows() {
-    let question = sheets::brackets(2000);
-    let q = &question;
-    let mut output = vec![0; 49 * question.cells()];
-    let (mut room, mut other_room) = (Room::new(q), Room::new(q));
-    let mut answer = [0; 5];
-    let (table, work) = room.slices();
-    assert_eq!(
-        trials::write(
-            &q.sheet,
-            &q.entry,
-            PAIR,
-            table,
-            work,
-            &mut output,
-            &mut answer
-        ),
-        0
-    );
-    let lines = answer[4];
-    let reading = output[..49 * lines as usize].to_vec();
-    let mut other = vec![0; output.len()];
-    let (table, work) = other_room.slices();
-    assert_eq!(
-        lines,
-        reading::write(&q.sheet, &q.entry, ASKED, table, work, &mut other)
-    );
-    assert!(other[..reading.len()] == reading);
-    let mut claimed = [0; 2];
-    assert_eq!(
-        trials::check(&q.sheet, &q.entry, PAIR, &reading, &mut claimed),
-        0
-    );
-    assert_eq!(
-        Some(claimed[0]),
-        reading::check(&q.sheet, &q.entry, ASKED, &reading)
-    );
-    let r = &reading;
-    let mut subjects: Vec<Subject> = vec![
+fn machine_row() {
+    let q = sheets::letters(4000);
+    let run = |frames: &mut [u32]| {
+        let mut answer = [0; 3];
+        trials::run(&q.sheet, &q.entry, PAIR, frames, u32::MAX, &mut answer);
+        answer
+    };
+    let twin = |frames: &mut [u32]| machine::run(&q.sheet, &q.entry, ASKED, frames, u32::MAX);
+    let (mut frames, mut other) = (vec![0; 3 * 4100], vec![0; 3 * 4100]);
+    let answer = run(&mut frames);
+    assert_eq!(answer, twin(&mut other));
+    let mut subjects: [Subject; 2] = [
         (
-            "writer",
-            Box::new(move |calls| {
-                let (table, work) = room.slices();
-                for _ in 0..calls {
-                    trials::write(
-                        &q.sheet,
-                        &q.entry,
-                        PAIR,
-                        table,
-                        work,
-                        &mut output,
-                        &mut answer,
-                    );
-                }
-            }),
+            "proved",
+            Box::new(|calls| repeat(calls, || run(&mut frames))),
         ),
-        (
-            "writer's twin",
-            Box::new(move |calls| {
-                let (table, work) = other_room.slices();
-                for _ in 0..calls {
-                    black_box(reading::write(
-                        &q.sheet, &q.entry, ASKED, table, work, &mut other,
-                    ));
-                }
-            }),
-        ),
-        (
-            "checker",
-            Box::new(move |calls| {
-                for _ in 0..calls {
-                    trials::check(&q.sheet, &q.entry, PAIR, r, &mut claimed);
-                }
-            }),
-        ),
-        (
-            "checker's twin",
-            Box::new(move |calls| {
-                for _ in 0..calls {
-                    black_box(reading::check(&q.sheet, &q.entry, ASKED, r));
-                }
-            }),
-        ),
+        ("twin", Box::new(|calls| repeat(calls, || twin(&mut other)))),
     ];
-    let times = timing::medians(&mut subjects);
-    row("writer, lines", lines.into(), &times[..2]);
-    row("checker, lines", lines.into(), &times[2..]);
+    row("machine, moves", answer[2], &mut subjects);
+}
+
+fn repeat<T>(calls: usize, mut call: impl FnMut() -> T) {
+    for _ in 0..calls {
+        black_box(call());
+    }
+}
+
+/// The writer's row; what it wrote.
+fn writer_row(q: &Question) -> Vec<u8> {
+    let (mut room, mut other_room) = (Room::new(q), Room::new(q));
+    let (table, work) = room.slices();
+    let (other_table, other_work) = other_room.slices();
+    let mut output = vec![0; 49 * q.cells()];
+    let mut other = output.clone();
+    let mut write = |output: &mut [u8]| {
+        let mut answer = [0; 5];
+        trials::write(&q.sheet, &q.entry, PAIR, table, work, output, &mut answer);
+        answer[4]
+    };
+    let mut twin = |output: &mut [u8]| {
+        reading::write(&q.sheet, &q.entry, ASKED, other_table, other_work, output)
+    };
+    let lines = write(&mut output);
+    assert_eq!(lines, twin(&mut other));
+    assert!(output == other);
+    let reading = output[..49 * lines as usize].to_vec();
+    let mut subjects: [Subject; 2] = [
+        (
+            "proved",
+            Box::new(|calls| repeat(calls, || write(&mut output))),
+        ),
+        ("twin", Box::new(|calls| repeat(calls, || twin(&mut other)))),
+    ];
+    row("writer, lines", lines, &mut subjects);
+    reading
+}
+
+fn checker_row(q: &Question, reading: &[u8]) {
+    let check = || {
+        let mut claimed = [0; 2];
+        let code = trials::check(&q.sheet, &q.entry, PAIR, reading, &mut claimed);
+        (code == 0).then_some(claimed[0])
+    };
+    let twin = || reading::check(&q.sheet, &q.entry, ASKED, reading);
+    assert!(check().is_some() && check() == twin());
+    let mut subjects: [Subject; 2] = [
+        ("proved", Box::new(|calls| repeat(calls, check))),
+        ("twin", Box::new(|calls| repeat(calls, twin))),
+    ];
+    row("checker, lines", reading.len() as u32 / 49, &mut subjects);
 }
 
 /// Makes the calls of one subject, `0/proved` or `read60/plain`.
@@ -504,6 +433,7 @@ fn main() {
     println!("| | proved | twin | time, of the twin's |");
     println!("|---|---|---|---|");
     machine_row();
-    reading_rows();
+    let question = sheets::brackets(2000);
+    checker_row(&question, &writer_row(&question));
     peers_table();
 }

@@ -52,7 +52,7 @@ fn fields(line: &[u8]) -> Option<[u32; 5]> {
 /// The sheet, or nothing where it is refused.
 pub fn read(text: &[u8]) -> Option<Sheet> {
     let lines = text.chunks_exact(26);
-    if text.is_empty() || text.len() % 26 != 0 || text.len() > 257 * 26 {
+    if text.is_empty() || !text.len().is_multiple_of(26) || text.len() > 257 * 26 {
         return None;
     }
     if lines.clone().any(|line| line[25] != b'\n') {
@@ -100,6 +100,77 @@ pub fn leaf(rule: Rule, entry: &[u8], place: u32) -> u32 {
     }
 }
 
+/// A table over the cells of an entry.
+struct Table<'a> {
+    cells: &'a mut [u32],
+    width: usize,
+}
+
+impl Table<'_> {
+    fn index(&self, (variable, place): (u32, u32)) -> usize {
+        (variable as usize - 1) * self.width + place as usize
+    }
+
+    fn get(&self, pair: (u32, u32)) -> u32 {
+        self.cells[self.index(pair)]
+    }
+
+    fn set(&mut self, pair: (u32, u32), code: u32) {
+        let index = self.index(pair);
+        self.cells[index] = code;
+    }
+
+    /// The pair that a pair calls next, and what its cell holds.
+    fn called(&self, place: u32, (b, c, d): (u32, u32, u32)) -> ((u32, u32), u32) {
+        let first = (b, place);
+        let second = match self.get(first) {
+            value @ (0 | OPEN) => return (first, value),
+            1 => (d, place),
+            code => (c, code - 5),
+        };
+        (second, self.get(second))
+    }
+}
+
+fn caller(link: u32) -> (u32, u32) {
+    (link / 8192, link % 8192)
+}
+
+/// From the asked pair to a result or a stop: its code, the named pair, and the latest open pair.
+fn walk(
+    sheet: &Sheet,
+    entry: &[u8],
+    asked: (u32, u32),
+    table: &mut Table,
+    work: &mut [u32],
+) -> (u32, (u32, u32), (u32, u32)) {
+    let mut top = asked;
+    table.set(top, OPEN);
+    loop {
+        let value = match sheet.rules[top.0 as usize - 1] {
+            Rule::Calls(b, c, d) => match table.called(top.1, (b, c, d)) {
+                (called, OPEN) => return (2, called, top),
+                (called, 0) => {
+                    table.set(called, OPEN);
+                    work[table.index(called)] = top.0 * 8192 + top.1;
+                    top = called;
+                    continue;
+                }
+                (_, value) => value,
+            },
+            rule => match leaf(rule, entry, top.1) {
+                stop @ 3..=4 => return (stop, top, top),
+                value => value,
+            },
+        };
+        table.set(top, value);
+        if top == asked {
+            return (value, (0, 0), top);
+        }
+        top = caller(work[table.index(top)]);
+    }
+}
+
 /// The cell's code, the named pair and the count.
 pub fn question(
     sheet: &[u8],
@@ -111,56 +182,17 @@ pub fn question(
     let sheet = read(sheet).expect("an accepted sheet");
     let width = entry.len() + 1;
     let size = sheet.variables as usize * width;
-    let (table, work) = (&mut table[..size], &mut work[..size]);
-    table.fill(0);
-    let cell = |(variable, place): (u32, u32)| (variable as usize - 1) * width + place as usize;
-    let caller = |link: u32| (link / 8192, link % 8192);
-    let mut top = asked;
-    table[cell(top)] = OPEN;
-    let (code, named) = loop {
-        let value = match sheet.rules[top.0 as usize - 1] {
-            Rule::Calls(b, c, d) => {
-                let mut called = (b, top.1);
-                let mut value = table[cell(called)];
-                if value != 0 && value != OPEN {
-                    called = if value == 1 {
-                        (d, top.1)
-                    } else {
-                        (c, value - 5)
-                    };
-                    value = table[cell(called)];
-                }
-                if value == OPEN {
-                    break (2, called);
-                }
-                if value == 0 {
-                    table[cell(called)] = OPEN;
-                    work[cell(called)] = top.0 * 8192 + top.1;
-                    top = called;
-                    continue;
-                }
-                value
-            }
-            rule => match leaf(rule, entry, top.1) {
-                stop @ 3..=4 => break (stop, top),
-                value => value,
-            },
-        };
-        table[cell(top)] = value;
-        if top == asked {
-            break (value, (0, 0));
-        }
-        top = caller(work[cell(top)]);
-    };
+    let cells = &mut table[..size];
+    cells.fill(0);
+    let mut table = Table { cells, width };
+    let (code, named, mut top) = walk(&sheet, entry, asked, &mut table, &mut work[..size]);
     if (2..=4).contains(&code) {
-        loop {
-            table[cell(top)] = code;
-            if top == asked {
-                break;
-            }
-            top = caller(work[cell(top)]);
+        table.set(top, code);
+        while top != asked {
+            top = caller(work[table.index(top)]);
+            table.set(top, code);
         }
     }
-    let count = table.iter().filter(|cell| **cell != 0).count();
+    let count = table.cells.iter().filter(|cell| **cell != 0).count();
     [code, named.0, named.1, count as u32]
 }

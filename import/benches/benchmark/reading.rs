@@ -132,7 +132,7 @@ fn follows(sheet: &Sheet, entry: &[u8], reading: &[u8], number: u32) -> Option<(
 /// The code of the outcome that the last line claims, where every line follows and the last one is the pair that is asked for.
 pub fn check(text: &[u8], entry: &[u8], asked: (u32, u32), reading: &[u8]) -> Option<u32> {
     let sheet = plain::read(text)?;
-    if reading.len() % 49 != 0 {
+    if !reading.len().is_multiple_of(49) {
         return None;
     }
     let lines = (reading.len() / 49) as u32;
