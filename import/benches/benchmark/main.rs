@@ -22,7 +22,8 @@ const PAIR: Pair = Pair {
     place: 0,
 };
 
-/// A table and a work slice of the cells that a question needs, at different offsets of a page.
+/// A table and a work slice of the cells that a question needs. They begin half a page apart, since stores to the one and loads of the other at the
+/// same offset of a page hold each other up.
 struct Room {
     table: Vec<u32>,
     work: Vec<u32>,
@@ -33,18 +34,25 @@ impl Room {
     fn new(question: &Question) -> Room {
         let cells = question.cells();
         Room {
-            table: vec![0; cells + 2048],
-            work: vec![0; cells + 2048],
+            table: vec![0; cells + 1024],
+            work: vec![0; cells + 1024],
             cells,
         }
     }
 
     fn slices(&mut self) -> (&mut [u32], &mut [u32]) {
         (
-            &mut self.table[16..16 + self.cells],
-            &mut self.work[400..400 + self.cells],
+            from_offset(&mut self.table, 64, self.cells),
+            from_offset(&mut self.work, 2112, self.cells),
         )
     }
+}
+
+/// So many numbers from the first that stands at an offset of a page.
+fn from_offset(numbers: &mut [u32], offset: usize, count: usize) -> &mut [u32] {
+    let at = numbers.as_ptr() as usize % 4096;
+    let start = (4096 + offset - at) % 4096 / 4;
+    &mut numbers[start..start + count]
 }
 
 type Call = fn(&[u8], &[u8], &mut [u32], &mut [u32]) -> [u32; 4];
@@ -266,12 +274,14 @@ fn peers_table() {
         .trim()
         .parse()
         .expect("a number");
-    let mut room = vec![0; 2 * variables * (longest + 1) + 400];
+    let cells = variables * (longest + 1);
+    let (mut table, mut work) = (vec![0; cells + 1024], vec![0; cells + 1024]);
+    let table = from_offset(&mut table, 64, cells);
+    let work = from_offset(&mut work, 2112, cells);
     let mut times = [const { Vec::new() }; 3];
     for _ in 0..11 {
         let start = std::time::Instant::now();
         for entry in &entries {
-            let (table, work) = room.split_at_mut(variables * (longest + 1) + 16);
             let [code, ..] = proved(&sheet, entry, table, work);
             assert_eq!(code as usize, 5 + entry.len());
         }
