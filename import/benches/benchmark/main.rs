@@ -22,8 +22,7 @@ const PAIR: Pair = Pair {
     place: 0,
 };
 
-/// A table and a work slice of the cells that a question needs. They begin half a page apart, since stores to the one and loads of the other at the
-/// same offset of a page hold each other up.
+/// A table and a work slice of the cells that a question needs. They begin half a page apart.
 struct Room {
     table: Vec<u32>,
     work: Vec<u32>,

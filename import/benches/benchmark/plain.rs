@@ -1,4 +1,4 @@
-//! An idiomatic Rust twin of the plain algorithm, written without the Rattle source: a rule is an enum, a caller is a link in the work slice, and a
+//! An idiomatic Rust twin of the plain algorithm, by the authors of the proved code: a rule is an enum, a caller is a link in the work slice, and a
 //! leaf takes one step to open and one to settle. Sheet reading, blanking and counting are included, as in the proved call.
 
 #[derive(Clone, Copy)]
