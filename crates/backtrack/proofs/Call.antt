@@ -13,7 +13,7 @@ use Rattle.schema.specs.Cases.{Case, cases, firstPair}
 use Rattle.schema.specs.Derivation.{Pair, Result, Derives, Stop, Stops, Loops, Outcome, result, stopped, Has}
 use Rattle.schema.specs.Handed.{asked, handed, questionOf}
 use Rattle.schema.specs.Machine.{says, spent, noFrame, Ran, ran, machine}
-use Rattle.schema.proofs.Admitted.{question-accepted}
+use Rattle.rules.proofs.Admitted.{question-accepted}
 use Rattle.schema.proofs.Cases.{cases-hold}
 use Rattle.schema.proofs.Laws.{has-one}
 use Rattle.backtrack.specs.Run.{told, Comes, Runs}

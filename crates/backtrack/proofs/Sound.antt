@@ -13,7 +13,7 @@ use Rattle.grammar.specs.Words.{ruleIn}
 use Rattle.schema.specs.Derivation.{Act, gives, stops, calls, success, failure, oneByte, actOf, act, _at_}
 use Rattle.schema.specs.Machine.{s, f, stage0, stage1, stage2, Frame, frame, State, state, stackOf, Flag, Next, outcome, move, operandC, operandD, stage0Of, step}
 use Rattle.backtrack.specs.Frames.{Sound}
-use Rattle.schema.proofs.RuleWords.{operands}
+use Rattle.rules.proofs.RuleWords.{operands}
 
 no-call : (input : List ℕ) (p : ℕ) (below matches : Bool) {B C D : ℕ} → ltb p (length input) ≡ below → oneByte input p matches ≡ calls B C D → ⊥
 no-call input p true true b e = let q = rw b at e in suc-ne-zero 0 (cc)

@@ -1,10 +1,10 @@
 // The backtracking machine.
 use grammar::sheet::Rules;
 use grammar::sheet::Sheet;
-use schema::Act;
-use schema::act_at;
-use schema::admit;
-use schema::second_of;
+use rules::Act;
+use rules::act_at;
+use rules::admit;
+use rules::second_of;
 ghost use mathlib.Core.Bool.{cond};
 ghost use mathlib.Core.List.{List, _∷_};
 ghost use mathlib.Core.Path.{_≡_};
@@ -12,7 +12,7 @@ ghost use Prim.Native.Nat.{ℕ, _+_, _*_, _/_, _≤_};
 ghost use lib.ListN.{length};
 ghost use Rattle.grammar.specs.Refusal.{accepted};
 ghost use Rattle.grammar.specs.Words.{ruleIn};
-ghost use Rattle.schema.specs.Act.{told as does};
+ghost use Rattle.rules.specs.Act.{told as does};
 ghost use Rattle.schema.specs.Derivation.{_at_, result, success, failure};
 ghost use Rattle.schema.specs.Machine.{Frame, frame, stage0, stage0Of, Next, step};
 ghost use Rattle.backtrack.specs.Run.{told, RunsTo, Runs};

@@ -13,6 +13,7 @@ pub mod Ends
 pub mod Walk
 pub mod Ask
 pub mod Laws
+pub mod Holding
 pub mod Carry
 pub mod Cells
 pub mod Links

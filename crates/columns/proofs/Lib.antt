@@ -1,5 +1,6 @@
 -- Laws of numbers in fixed columns.
 pub mod Laws
+pub mod Five
 pub mod Writing
 pub mod RoundTrip
 pub mod Rows

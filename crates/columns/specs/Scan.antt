@@ -1,9 +1,9 @@
 -- What the steps of reading and writing a field do. Assumes nothing.
 use mathlib.Core.Bool.{cond}
-use mathlib.Core.List.{List}
+use mathlib.Core.List.{List, [], _∷_}
 use mathlib.Core.Option.{Option, none, some}
 use mathlib.Core.Path.{_≡_}
-use Prim.Native.Nat.{ℕ, _+_, _%_, _≤_, _<_}
+use Prim.Native.Nat.{ℕ, _+_, _/_, _%_, _≤_, _<_}
 use lib.Dec.{eqb}
 use lib.ListN.{getD}
 use lib.Seq.{slice}
@@ -26,3 +26,7 @@ held Fault = none
 -- One column left of the last, where x is what is left of the number.
 abbrev pub leadingByte : ℕ → ℕ
 leadingByte x = cond (eqb x 0) 32 (48 + x % 10)
+
+-- Five columns, four of them in one number, the first lowest.
+abbrev pub fiveOf : ℕ → ℕ → List ℕ
+fiveOf left e = left % 256 ∷ left / 256 % 256 ∷ left / 65536 % 256 ∷ left / 16777216 ∷ e ∷ []

@@ -1,10 +1,12 @@
 // Decimal numbers in fixed columns: read by a cursor that goes by value, and written.
 ghost use mathlib.Core.Path.{_≡_};
-ghost use Prim.Native.Nat.{_+_, _*_, _-_, _≤_, _<_};
-ghost use lib.ListN.{length};
+ghost use Prim.Native.Nat.{_+_, _*_, _-_, _/_, _%_, _≤_, _<_};
+ghost use mathlib.Core.Bool.{_&&_};
+ghost use lib.Dec.{leb};
+ghost use lib.ListN.{length, getD};
 ghost use lib.Seq.{slice};
-ghost use Rattle.columns.specs.Column.{column, digitsAfter, reads, told};
-ghost use Rattle.columns.specs.Scan.{Skipped, held, leadingByte};
+ghost use Rattle.columns.specs.Column.{column, digitsAfter, number, reads, told};
+ghost use Rattle.columns.specs.Scan.{Skipped, held, fiveOf, leadingByte};
 
 // The position of a column, counted from 0.
 pub struct Cursor {
@@ -67,6 +69,86 @@ fn read_digits(s: &[u8], at: usize, end: usize) -> Digits
     Digits::Value(v)
 }
 
+// Is x among low to high?
+fn among(low: u32, high: u32, x: u32) -> bool
+    ensures { λ r. ⌜ r ≡ (leb low x && leb x high) ⌝ }
+{
+    if x < low {
+        return false;
+    }
+    x <= high
+}
+
+// A byte as a number of four bytes.
+fn wide(b: u8) -> u32
+    ensures { λ r. ⌜ (r ≡ b) × (r ≤ 255) ⌝ }
+{
+    b as u32
+}
+
+// Four columns as one number, the first lowest, so that blanks are found with one comparison. (It takes the slice and not four bytes: then the
+// compiler loads them at once.)
+fn four(s: &[u8], at: usize) -> u32
+    requires { ⌜ at + 4 ≤ length (now s) ⌝ }
+    ensures { λ r. ⌜ (r % 256 ≡ getD (now (s .entry)) at 0) × (r / 256 % 256 ≡ getD (now (s .entry)) (at + 1) 0) × (r / 65536 % 256 ≡ getD (now (s .entry)) (at + 2) 0) × (r / 16777216 ≡ getD (now (s .entry)) (at + 3) 0) ⌝ }
+{
+    let a = wide(s[at]);
+    let b = wide(s[at + 1]);
+    let c = wide(s[at + 2]);
+    let d = wide(s[at + 3]);
+    a + 256 * b + 65536 * c + 16777216 * d
+}
+
+// The number in five columns, four of them as one number: by digits from the last on, until all that is left is blank.
+fn five_columns(left: u32, e: u32) -> Digits
+    ensures { λ r. ⌜ held r ≡ number (fiveOf left e) ⌝ }
+{
+    if !among(48, 57, e) {
+        return Digits::Fault;
+    }
+    let ones = e - 48;
+    if left == 538976288 {
+        return Digits::Value(ones);
+    }
+    let d = left / 16777216;
+    if left % 16777216 == 2105376 {
+        if !among(49, 57, d) {
+            return Digits::Fault;
+        }
+        return Digits::Value(10 * (d - 48) + ones);
+    }
+    if !among(48, 57, d) {
+        return Digits::Fault;
+    }
+    let tens = 10 * (d - 48) + ones;
+    let c = left / 65536 % 256;
+    if left % 65536 == 8224 {
+        if !among(49, 57, c) {
+            return Digits::Fault;
+        }
+        return Digits::Value(100 * (c - 48) + tens);
+    }
+    if !among(48, 57, c) {
+        return Digits::Fault;
+    }
+    let hundreds = 100 * (c - 48) + tens;
+    let b = left / 256 % 256;
+    let a = left % 256;
+    if a == 32 {
+        if !among(49, 57, b) {
+            return Digits::Fault;
+        }
+        return Digits::Value(1000 * (b - 48) + hundreds);
+    }
+    if !among(48, 57, b) {
+        return Digits::Fault;
+    }
+    if !among(49, 57, a) {
+        return Digits::Fault;
+    }
+    Digits::Value(10000 * (a - 48) + 1000 * (b - 48) + hundreds)
+}
+
 impl Cursor {
     // The field of w columns here.
     fn read(self, s: &[u8], w: usize) -> Field
@@ -102,7 +184,18 @@ impl Cursor {
     pub fn five(self, s: &[u8]) -> Field
         ensures { λ r. ⌜ told r ≡ reads 5 (now (s .entry)) (self .at) ⌝ }
     {
-        self.read(s, 5)
+        let at = self.at;
+        if s.len() < 5 {
+            return Field::Fault;
+        }
+        if s.len() - 5 < at {
+            return Field::Fault;
+        }
+        let left = four(s, at);
+        match five_columns(left, wide(s[at + 4])) {
+            Digits::Value(x) => Field::Number(x, Cursor { at: at + 5 }),
+            Digits::Fault => Field::Fault,
+        }
     }
 
     // The field of 8 columns here, as on a line of a reading.

@@ -17,11 +17,12 @@ use Rattle.schema.specs.Handed.{Handed, handed, asked, questionOf, verdictOf}
 use Rattle.schema.specs.Machine.{Ran}
 use Rattle.schema.specs.Verdict.{verdictCode}
 use Rattle.schema.proofs.CallRefusals.{call-refused}
-use Rattle.memo.specs.Answer.{Reply, reply, told, Replies, QuestionPromise}
+use Rattle.walk.specs.Reply.{Reply, reply, told}
+use Rattle.memo.specs.Answer.{Replies, QuestionPromise}
 use Rattle.memo.specs.Verdict.{numbers, judged, Judges, VerdictPromise}
-use Rattle.memo.specs.Writer.{writerOf, RepliesWriting, WriterPromise}
-use Rattle.memo.specs.declared.Answer.{Answer}
-use Rattle.memo.specs.declared.writer.Written.{Written}
+use Rattle.writer.specs.Writer.{writerOf, RepliesWriting, WriterPromise}
+use Rattle.walk.specs.declared.Answer.{Answer}
+use Rattle.writer.specs.declared.Written.{Written}
 use Rattle.memo.specs.declared.Judgement.{Judgement}
 use Rattle.memo.specs.declared.Judgement.the-variants.{Recognised, Partial, Failure, Loop, Missing, End, Refused}
 use Rattle.backtrack.specs.Run as run

@@ -15,16 +15,16 @@ use Rattle.schema.specs.Handed.{Handed, handed, asked}
 use Rattle.schema.specs.Line.{linesBytes}
 use Rattle.schema.specs.Machine.{says, ran}
 use Rattle.schema.specs.Table.{Within, cells}
-use Rattle.schema.proofs.Admitted.{question-accepted}
+use Rattle.rules.proofs.Admitted.{question-accepted}
 use Rattle.schema.proofs.Handed.{handed-sheet, handed-input, handed-pair, handed-slices}
 use Rattle.schema.proofs.Laws.{number-one}
 use Rattle.schema.proofs.LineLength.{lines-length}
 use Rattle.schema.proofs.SheetClosed.{sheet-closed}
-use Rattle.memo.specs.Answer.{Reply, outcomeOf, countOf, told}
-use Rattle.memo.specs.Writer.{Writes, writerOf, SaysWriting, RepliesWriting, WriterPromise}
-use Rattle.memo.specs.declared.writer.Written.{Written}
-use Rattle.memo.proofs.LinesNumber.{lines-number}
-use Rattle.memo.proofs.Numbers.{cells-small}
+use Rattle.walk.specs.Reply.{Reply, outcomeOf, countOf, told}
+use Rattle.writer.specs.Writer.{Writes, writerOf, SaysWriting, RepliesWriting, WriterPromise}
+use Rattle.writer.specs.declared.Written.{Written}
+use Rattle.writer.proofs.LinesNumber.{lines-number}
+use Rattle.walk.proofs.Numbers.{cells-small}
 use Rattle.memo.proofs.Result.{count-is, count-most, outcome-is}
 use Rattle.backtrack.specs.Run as run
 use Rattle.backtrack.specs.declared.Ending.{Ending}

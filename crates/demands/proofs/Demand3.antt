@@ -11,9 +11,10 @@ use Rattle.schema.specs.Cases.{sheetH, header}
 use Rattle.schema.specs.Derivation.{Pair, _at_, Result, success, failure, Outcome, result, loop, Has}
 use Rattle.schema.specs.Handed.{handed, asked, questionOf}
 use Rattle.schema.specs.Machine.{spent, noFrame, ran}
-use Rattle.schema.proofs.Admitted.{question-accepted}
-use Rattle.memo.specs.Answer.{Reply, reply, outcomeOf, told, QuestionPromise}
-use Rattle.memo.specs.declared.Answer.{Answer}
+use Rattle.rules.proofs.Admitted.{question-accepted}
+use Rattle.walk.specs.Reply.{Reply, reply, outcomeOf, told}
+use Rattle.memo.specs.Answer.{QuestionPromise}
+use Rattle.walk.specs.declared.Answer.{Answer}
 use Rattle.memo.proofs.Promised.{question-answers, question-reply, case-a, case-g}
 use Rattle.backtrack.specs.Run as run
 use Rattle.backtrack.specs.declared.Ending.{Ending}

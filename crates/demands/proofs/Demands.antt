@@ -10,12 +10,13 @@ use Rattle.grammar.specs.Order.{FirstHolds}
 use Rattle.schema.specs.Derivation.{Pair, _at_, Result, Derives, result}
 use Rattle.schema.specs.Handed.{handed, asked, questionOf, verdictOf}
 use Rattle.schema.specs.Machine.{says, ran}
-use Rattle.memo.specs.Answer.{Reply, outcomeOf, told, QuestionPromise}
+use Rattle.walk.specs.Reply.{Reply, outcomeOf, told}
+use Rattle.memo.specs.Answer.{QuestionPromise}
 use Rattle.memo.specs.Verdict.{VerdictPromise}
-use Rattle.memo.specs.Writer.{writerOf, WriterPromise}
-use Rattle.memo.specs.declared.Answer.{Answer}
+use Rattle.writer.specs.Writer.{writerOf, WriterPromise}
+use Rattle.walk.specs.declared.Answer.{Answer}
 use Rattle.memo.specs.declared.Judgement.{Judgement}
-use Rattle.memo.specs.declared.writer.Written.{Written}
+use Rattle.writer.specs.declared.Written.{Written}
 use Rattle.backtrack.specs.Run as run
 use Rattle.backtrack.specs.declared.Ending.{Ending}
 use Rattle.checker.specs.Checker as checker

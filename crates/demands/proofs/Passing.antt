@@ -13,8 +13,8 @@ use Rattle.schema.specs.Derivation.{Pair, _at_, Result, success, failure, secon
 use Rattle.schema.specs.Line.{Line, line, lineOf, linesBytes, numbered, Follows, by-leaf, by-call}
 use Rattle.schema.specs.Table.{Within}
 use Rattle.schema.proofs.Ends.{EndsWithin, derives-ends}
-use Rattle.memo.specs.Writer.{Visits}
-use Rattle.memo.proofs.WriterLaws.{last-line, each-follows}
+use Rattle.writer.specs.Writer.{Visits}
+use Rattle.writer.proofs.WriterLaws.{last-line, each-follows}
 use Rattle.checker.specs.Proper.{EachFollows, no-line, one-more, Proper}
 use Rattle.checker.proofs.Written.{FitLine, FitLines, written-reads}
 

@@ -12,7 +12,7 @@ use Rattle.schema.specs.Handed.{Handed, handedCondition, callFaults}
 use Rattle.schema.specs.Machine.{says, ran, machine}
 use Rattle.schema.specs.Reached.{Reached, Number}
 use Rattle.schema.specs.Table.{cells, Holds}
-use Rattle.memo.specs.Answer.{Reply, outcomeOf, countOf}
+use Rattle.walk.specs.Reply.{Reply, outcomeOf, countOf}
 use Rattle.memo.specs.Verdict.{numbers}
 use Rattle.memo.specs.declared.Judgement.{Judgement}
 use Rattle.memo.specs.declared.Judgement.the-variants.{Recognised, Partial, Failure, Loop, Missing, End, Refused}

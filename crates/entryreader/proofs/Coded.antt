@@ -17,7 +17,7 @@ use Rattle.schema.proofs.Cases.{cases-hold}
 use Rattle.schema.proofs.Handed.{handed-sheet}
 use Rattle.schema.proofs.Laws.{has-one}
 use Rattle.schema.proofs.Small.{refusal-small}
-use Rattle.memo.specs.Answer.{reply}
+use Rattle.walk.specs.Reply.{reply}
 use Rattle.memo.specs.Verdict.{numbers, Judges, VerdictPromise}
 use Rattle.memo.specs.Verdict as verdict
 use Rattle.memo.specs.declared.Judgement.{Judgement}

@@ -11,8 +11,9 @@ use Rattle.schema.specs.Handed.{handed, questionOf}
 use Rattle.schema.specs.Table.{code}
 use Rattle.schema.proofs.Handed.{handed-input, handed-pair}
 use Rattle.schema.proofs.Small.{refusal-small, code-small}
-use Rattle.memo.specs.Answer.{outcomeOf, told, Replies, QuestionPromise}
-use Rattle.memo.specs.declared.Answer.{Answer}
+use Rattle.walk.specs.Reply.{outcomeOf, told}
+use Rattle.memo.specs.Answer.{Replies, QuestionPromise}
+use Rattle.walk.specs.declared.Answer.{Answer}
 use Rattle.memo.proofs.Promised.{one-result}
 use Rattle.entryreader.specs.Codes.{returned, reported, QuestionNumbers, Fits}
 

@@ -11,8 +11,9 @@ use Rattle.schema.specs.Derivation.{_at_, Outcome, Has}
 use Rattle.schema.specs.Handed.{handed, verdictOf}
 use Rattle.schema.specs.Table.{code}
 use Rattle.schema.specs.Verdict.{verdictCode}
-use Rattle.memo.specs.Answer.{Reply, reply, outcomeOf, told, QuestionPromise}
-use Rattle.memo.specs.declared.Answer.{Answer}
+use Rattle.walk.specs.Reply.{Reply, reply, outcomeOf, told}
+use Rattle.memo.specs.Answer.{QuestionPromise}
+use Rattle.walk.specs.declared.Answer.{Answer}
 
 -- "or 100 plus the refusal number"
 abbrev pub exported : {A : Type 0} → (A → ℕ) → Checked A → ℕ

@@ -1,12 +1,12 @@
 // The calls for programs in other languages.
 ghost use Prim.Native.Nat.{_≤_};
 ghost use mathlib.Core.Path.{_≡_};
-ghost use Rattle.memo.specs.Answer.{told};
+ghost use Rattle.walk.specs.Reply.{told};
 ghost use Rattle.memo.specs.Verdict.{numbers};
 ghost use Rattle.entryreader.specs.Codes.{codeOf, VerdictCode, returned, reported, Fits, QuestionNumbers};
-use memo::Answer;
-use memo::Cell;
 use memo::Judgement;
+use walk::Answer;
+use walk::Cell;
 
 // The code of a verdict, or 100 plus the number of a refusal.
 fn code(judgement: Judgement) -> u32

@@ -1,63 +1,66 @@
--- Asking, step by step: the walk from the blanked table, the closing, the answer. Assumes nothing.
+-- Asking over the blanked table. Assumes nothing.
 use mathlib.Core.Path.{_≡_, ap, _∙_}
 use mathlib.Core.List.{List}
-use mathlib.Core.Logic.{inl, inr}
-use Prim.Native.Nat.{ℕ, _≤_}
+use Prim.Native.Nat.{ℕ, _-_, _≤_, _<_}
 use native.Mathlib.Omega.{arith}
-use lib.ListN.{length, getD, set, drop}
+use lib.ListN.{length, getD, take, drop}
+use Rattle.grammar.specs.Refusal.{Checked}
 use Rattle.grammar.specs.Rule.{Rule}
-use Rattle.schema.specs.Derivation.{_at_, Result, success, failure}
-use Rattle.schema.specs.Table.{cell, cells}
-use Rattle.schema.proofs.Answer.{reached-cell}
-use Rattle.memo.specs.Answer.{Code, AskReady, Says, told}
-use Rattle.memo.specs.Finish.{FinishReady, Finishes}
-use Rattle.memo.specs.Walk.{openMark, Settled, before, WalkReady, WalkEnds}
-use Rattle.memo.specs.declared.Answer.{Answer}
-use Rattle.memo.specs.declared.Walk.{Walk}
-use Rattle.memo.specs.declared.Walk.the-variants as walk
-use Rattle.memo.proofs.Cleared.{cleared, cleared-length, cleared-at, cleared-later, before-is, walk-ready}
-use Rattle.memo.proofs.Finished.{close-ready, no-open, leaves, answers}
+use Rattle.schema.specs.Derivation.{_at_}
+use Rattle.schema.specs.Table.{cell, cells, decided}
+use Rattle.schema.proofs.Cell.{cell-below}
+use Rattle.walk.specs.Reply.{Reply, reply}
+use Rattle.memo.specs.Answer.{AskReady, Says}
+use Rattle.walk.specs.Over.{OverReady, Over}
+use Rattle.walk.proofs.Cleared.{cleared, cleared-length, cleared-at, cleared-later, blank-right}
+use Rattle.walk.proofs.Decided.{decided-zero}
 
-pub code-of : (n c : ℕ) (r : Result) → Settled n c r → Code c
-code-of n c failure m = inl (m .code-is)
-code-of n c (success q) m = let e = m .code-is in inr (omega arith)
+module _ {rule : ℕ → Rule} {s : List ℕ} {v A p : ℕ} {T W : List ℕ} (r : AskReady rule s v A p T W) {T₁ : List ℕ} (e : T₁ ≡ cleared (cells v (length s)) T) where
+  abbrev N : ℕ
+  N = cells v (length s)
 
-module _ {rule : ℕ → Rule} {s : List ℕ} {v A p : ℕ} {T W : List ℕ} (r : AskReady rule s v A p T W) {T₁ : List ℕ}
-    (e : T₁ ≡ set (cleared (cells v (length s)) T) (cell (length s) (A at p)) openMark) where
-  -- The walk may begin.
-  pub may-walk : WalkReady rule s v A p T₁ W
-  may-walk = rw e (walk-ready rule s v A p (r .closed) (r .few) (r .short) (r .within) T W (r .room) (r .work-room))
+  blank-at : (i : ℕ) → i < N → getD T₁ i 0 ≡ 0
+  blank-at i l = ap (λ (C : List ℕ). getD C i 0) e ∙ cleared-at N T i l
 
-  pub before-cleared : before (length s) (A at p) T₁ ≡ cleared (cells v (length s)) T
-  before-cleared =
-      ap (before (length s) (A at p)) e ∙ before-is rule s v A p (r .closed) (r .few) (r .short) (r .within) T W (r .room) (r .work-room)
+  blank-length : length T₁ ≡ length T
+  blank-length = ap length e ∙ cleared-length N T (r .room)
 
-  room-before : cells v (length s) ≤ length (before (length s) (A at p) T₁)
-  room-before = let m = r .room in let z = ap length before-cleared in let l = cleared-length (cells v (length s)) T (r .room) in omega arith
+  blank-room : N ≤ length T₁
+  blank-room = let l = blank-length in let m = r .room in omega arith
 
-  module _ {T₂ W₁ : List ℕ} where
-    -- The closing may begin.
-    pub may-finish : (end : Walk) → WalkEnds rule s v (A at p) (before (length s) (A at p) T₁) T₂ W W₁ end → FinishReady (length s) v T₂ W₁ end
-    may-finish (walk.Settled c) h =
-        let m = room-before in
-        let z = h .table .size in
-        let k = h .settled-code in
-        record { few = r .few; short = r .short; room = omega arith; code-is = code-of (length s) (c .0) (k .0) (k .1); no-open = no-open (h .table) (h .stops-at) }
-    may-finish (walk.Loop a e B q d) h =
-        close-ready h B q 2 (r .few) (r .short) (λ z. omega arith) room-before (r .work-room) (h .stops-at)
-    may-finish (walk.Missing B q d) h =
-        close-ready h B q 3 (r .few) (r .short) (λ z. omega arith) room-before (r .work-room) (h .stops-at)
-    may-finish (walk.End B q d) h =
-        close-ready h B q 4 (r .few) (r .short) (λ z. omega arith) room-before (r .work-room) (h .stops-at)
+  -- The blanked table may be asked over.
+  pub may-ask : OverReady rule s v A p T₁ W
+  may-ask = record {
+    few = r .few;
+    short = r .short;
+    closed = r .closed;
+    within = r .within;
+    room = blank-room;
+    work-room = r .work-room;
+    in-range = λ i l. let z = blank-at i l in omega arith;
+  }
 
-    -- The answer.
-    pub asked : {T₃ : List ℕ} {end : Walk} (a : Answer) → WalkEnds rule s v (A at p) (before (length s) (A at p) T₁) T₂ W W₁ end → Finishes (length s) v end T₂ T₃ a
-        → Says rule v s (A at p) T T₃ W W₁ (told a)
-    asked {T₃} {end} a h f =
-        let N = cells v (length s) in (
-          _,
-          f .says,
-          answers h (leaves (h .table) T₃ T (λ i l. ap (λ (C : List ℕ). getD C i 0) before-cleared ∙ cleared-at N T i l) (ap (drop N) before-cleared ∙ cleared-later N T)
-              (ap length before-cleared ∙ cleared-length N T (r .room)) (f .closes) (r .short)
-              (λ y k. reached-cell rule s v (r .closed) (A at p) (r .within) k .0)),
-        )
+  -- What is said over it: every decided cell is new.
+  pub asked : {T₂ W₁ : List ℕ} (a : Checked Reply) → Over rule v s (A at p) T₁ T₂ W W₁ a → Says rule v s (A at p) T T₂ W W₁ a
+  asked {T₂} {W₁} a o =
+      let k = o .from-right (blank-right rule s v T₁ blank-at) in
+      let z = decided-zero T₁ N blank-room blank-at in
+      let all : decided (take N T₂) - decided (take N T₁) ≡ decided (take N T₂) = omega arith in (
+        o .replies,
+        o .accepts,
+        record {
+          outcome = k .outcome;
+          named = k .named;
+          has = k .has;
+          names = k .names;
+          says = k .says ∙ ap (reply (k .outcome) (k .named)) all;
+          leaves = record {
+            holds = k .leaves .holds;
+            others = λ B q w d. k .leaves .others B q w (λ h. d (h ∙ blank-at (cell (length s) (B at q)) (cell-below v (length s) (B at q) w)));
+            later = o .later ∙ ap (drop N) e ∙ cleared-later N T;
+            size = o .size ∙ blank-length;
+          };
+          beyond = o .beyond;
+          size = o .work-size;
+        },
+      )

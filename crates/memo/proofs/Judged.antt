@@ -20,8 +20,9 @@ use Rattle.schema.specs.Derivation.{_at_}
 use Rattle.schema.specs.Handed.{handed, verdictOf}
 use Rattle.schema.specs.Table.{Within, cells}
 use Rattle.schema.specs.Verdict.{closedBy}
-use Rattle.schema.proofs.Admission.{handed-refused, verdict-by}
-use Rattle.memo.specs.Answer.{Reply, Says, AskReady}
+use Rattle.schema.proofs.Tested.{handed-refused, verdict-by}
+use Rattle.walk.specs.Reply.{Reply}
+use Rattle.memo.specs.Answer.{Says, AskReady}
 use Rattle.memo.specs.Verdict.{judged, Judges}
 use Rattle.memo.proofs.Ready.{few-variables, ready, says-of}
 

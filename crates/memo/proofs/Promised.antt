@@ -16,9 +16,10 @@ use Rattle.schema.specs.Reached.{Reached, Number}
 use Rattle.schema.specs.Table.{Within, cells}
 use Rattle.schema.proofs.Cases.{cases-hold}
 use Rattle.schema.proofs.Handed.{handed-sheet, handed-pair, handed-slices}
-use Rattle.memo.specs.Answer.{Reply, reply, outcomeOf, countOf, told, Says, Replies, QuestionPromise}
+use Rattle.walk.specs.Reply.{Reply, reply, outcomeOf, countOf, told}
+use Rattle.memo.specs.Answer.{Says, Replies, QuestionPromise}
 use Rattle.memo.specs.Verdict.{numbers, judged, Judges, VerdictPromise}
-use Rattle.memo.specs.declared.Answer.{Answer}
+use Rattle.walk.specs.declared.Answer.{Answer}
 use Rattle.memo.specs.declared.Judgement.{Judgement}
 use Rattle.memo.proofs.Result.{count-is, count-most, outcome-is, answer-is, one-answer, one-table}
 

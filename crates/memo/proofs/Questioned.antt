@@ -11,14 +11,15 @@ use Rattle.grammar.specs.Words.{ruleIn}
 use Rattle.grammar.specs.declared.sheet.Grammar.{Grammar as Line}
 use Rattle.grammar.specs.declared.sheet.Sheet.{Sheet}
 use Rattle.grammar.specs.declared.sheet.Sheet.the-variants.{Read, Refused}
-use Rattle.schema.specs.Admission.{Admission}
+use Rattle.rules.specs.Admission.{Admission}
 use Rattle.schema.specs.Derivation.{_at_}
 use Rattle.schema.specs.Handed.{handed, asked, questionOf}
 use Rattle.schema.specs.Table.{cells}
-use Rattle.schema.proofs.Admission.{slicesOut, question-follows}
-use Rattle.schema.proofs.Admitted.{Admitted, admitted, not-admitted}
+use Rattle.schema.proofs.Tested.{slicesOut, question-follows}
+use Rattle.rules.proofs.Admitted.{Admitted, admitted, not-admitted}
 use Rattle.schema.proofs.Handed.{handed-sheet}
-use Rattle.memo.specs.Answer.{Reply, Replies, Says, AskReady}
+use Rattle.walk.specs.Reply.{Reply}
+use Rattle.memo.specs.Answer.{Replies, Says, AskReady}
 use Rattle.memo.proofs.Ready.{few-variables, ready, says-of}
 
 module _ {s input : List ℕ} {A p : ℕ} {before after : List ℕ} {r : Sheet} (admission : Admission s input A p before after r) (table work : List ℕ) where

@@ -16,7 +16,8 @@ use Rattle.schema.specs.Closed.{Closed}
 use Rattle.schema.specs.Table.{Within, cells}
 use Rattle.schema.proofs.Handed.{neither-true}
 use Rattle.schema.proofs.SheetClosed.{sheet-closed}
-use Rattle.memo.specs.Answer.{Reply, Says, AskReady}
+use Rattle.walk.specs.Reply.{Reply}
+use Rattle.memo.specs.Answer.{Says, AskReady}
 
 module _ (s : List ℕ) {array : List ℕ} {v : ℕ} (g : Grammar) (accepts : sheet s ≡ accepted g) (variables-are : g .variables ≡ v) (rules-are : ruleIn array ≡ g .rule) where
   pub few-variables : v ≤ 256

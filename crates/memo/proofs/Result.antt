@@ -21,8 +21,9 @@ use Rattle.schema.proofs.Counted.{number-cells}
 use Rattle.schema.proofs.Handed.{handed-sheet}
 use Rattle.schema.proofs.Laws.{has-one, named-one, number-one}
 use Rattle.schema.proofs.SheetClosed.{sheet-closed}
-use Rattle.memo.specs.Answer.{Reply, reply, outcomeOf, countOf, Answers}
-use Rattle.memo.proofs.Decided.{decided-none, decided-blank, decided-more}
+use Rattle.walk.specs.Reply.{Reply, reply, outcomeOf, countOf}
+use Rattle.memo.specs.Answer.{Answers}
+use Rattle.walk.proofs.Decided.{decided-none, decided-blank, decided-more}
 use Rattle.memo.proofs.TableOne.{table-one}
 
 -- The count of decided cells counts the cells that are not blank.

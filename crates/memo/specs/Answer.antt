@@ -1,40 +1,18 @@
 -- Document 01, "The table engine": the promise of a question. Assumes nothing.
 use mathlib.Core.List.{List}
-use mathlib.Core.Logic.{_⊎_}
 use mathlib.Core.Path.{_≡_}
 use Prim.Native.Nat.{ℕ, _≤_}
 use lib.ListN.{length, take, drop}
 use Rattle.grammar.specs.Refusal.{Checked, refused, accepted}
 use Rattle.grammar.specs.Rule.{Rule}
 use Rattle.grammar.specs.Sheet.{Grammar}
-use Rattle.schema.specs.Derivation.{Pair, _at_, success, failure, missing, end, Outcome, result, stopped, loop, Has}
+use Rattle.schema.specs.Derivation.{Pair, _at_, Outcome, Has}
 use Rattle.schema.specs.Reached.{Named}
 use Rattle.schema.specs.Closed.{Closed}
 use Rattle.schema.specs.Table.{Within, cells, decided, blanked, Table}
 use Rattle.schema.specs.Handed.{handed, questionOf}
-use Rattle.memo.specs.declared.Answer.{Answer}
-use Rattle.memo.specs.declared.Answer.the-variants.{Success, Failure, Loop, Missing, End, Refused}
-
--- "The result carries the outcome, the named pair if any, and the count of decided (non-blank) cells". No pair is 0 at 0.
-pub data Reply : Type 0 where
-  reply : Outcome → Pair → ℕ → Reply
-
--- The outcome of a reply.
-abbrev pub outcomeOf : Reply → Outcome
-outcomeOf (reply o z count) = o
-
--- Its count of decided cells.
-abbrev pub countOf : Reply → ℕ
-countOf (reply o z count) = count
-
--- What each case of the answer says.
-abbrev pub told : Answer → Checked Reply
-told (Success q count) = accepted (reply (result (success q)) (0 at 0) count)
-told (Failure count) = accepted (reply (result failure) (0 at 0) count)
-told (Loop A p count) = accepted (reply loop (A at p) count)
-told (Missing A p count) = accepted (reply (stopped missing) (A at p) count)
-told (End A p count) = accepted (reply (stopped end) (A at p) count)
-told (Refused number line) = refused number line
+use Rattle.walk.specs.Reply.{Reply, reply, told}
+use Rattle.walk.specs.declared.Answer.{Answer}
 
 -- The reply to a question about x, of v variables, that is not refused, with the table and the work slice before and after it.
 pub record Answers (rule : ℕ → Rule) (v : ℕ) (input : List ℕ) (x : Pair) (table table′ work work′ : List ℕ) (r : Reply) : Type 0 where
@@ -61,12 +39,6 @@ Replies (accepted g) input x table table′ work work′ r = Says (g .rule) (g .
 abbrev pub QuestionPromise : List ℕ → List ℕ → ℕ → ℕ → List ℕ → List ℕ → List ℕ → List ℕ → Answer → Type 0
 QuestionPromise sheet input A p table table′ work work′ r =
     Replies (handed sheet (questionOf input (A at p) (length table) (length work))) input (A at p) table table′ work work′ (told r)
-
--- ---- What the steps of a question ask.
-
--- A cell that holds failure or success.
-abbrev pub Code : ℕ → Type 0
-Code c = (c ≡ 1) ⊎ (5 ≤ c)
 
 -- What asking is handed, once the refusals are tested.
 pub record AskReady (rule : ℕ → Rule) (input : List ℕ) (v A p : ℕ) (table work : List ℕ) : Type 0 where

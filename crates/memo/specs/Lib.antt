@@ -1,9 +1,3 @@
--- The table engine: its promise, and what its steps do.
+-- The table engine: the promises of a question and of a verdict.
 pub mod Answer
-pub mod Walk
-pub mod Step
-pub mod Look
-pub mod Finish
 pub mod Verdict
-pub mod Writer
-pub mod Writing

@@ -8,7 +8,7 @@ use lib.Seq.{take-at, drop-append-add, set-split}
 use borrow.Rule.Slice.PartMut.{putMid, midOf}
 use Rattle.columns.specs.Column.{column, row}
 use Rattle.columns.proofs.Rows.{column-length}
-use Rattle.memo.proofs.LineFields.{field-put}
+use Rattle.writer.proofs.LineFields.{field-put}
 
 -- One field more, behind those that are written.
 next : (done rest out ys : List ℕ) (k x : ℕ) → length done ≡ k → out ≡ done ++ rest → 8 ≤ length rest → ys ≡ column (length (midOf k (k + 8 - k) out)) x

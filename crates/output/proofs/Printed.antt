@@ -17,9 +17,9 @@ use Rattle.schema.specs.Reached.{Reached, Number}
 use Rattle.schema.proofs.Handed.{handed-sheet, handed-slices}
 use Rattle.schema.proofs.Laws.{has-one}
 use Rattle.schema.proofs.LineLength.{lines-length}
-use Rattle.memo.specs.Answer.{reply, outcomeOf, countOf, told}
+use Rattle.walk.specs.Reply.{reply, outcomeOf, countOf, told}
 use Rattle.memo.specs.Verdict.{numbers, judged, Judges, VerdictPromise}
-use Rattle.memo.specs.Writer.{Lines, Writes, writerOf, SaysWriting, RepliesWriting}
+use Rattle.writer.specs.Writer.{Lines, Writes, writerOf, SaysWriting, RepliesWriting}
 use Rattle.memo.specs.declared.Judgement.{Judgement}
 use Rattle.memo.proofs.Result.{count-is}
 use Rattle.output.specs.Output.{Printing, Writing, Certificate}

@@ -14,10 +14,10 @@ use Rattle.schema.specs.Derivation.{Pair, _at_, Outcome, Has}
 use Rattle.schema.specs.Handed.{handed, verdictOf}
 use Rattle.schema.specs.Line.{Line, linesBytes}
 use Rattle.schema.specs.Reached.{Reached, Named, Number}
-use Rattle.memo.specs.Answer.{reply}
+use Rattle.walk.specs.Reply.{reply}
 use Rattle.memo.specs.Verdict.{judged}
-use Rattle.memo.specs.Writer.{Lines, WriterPromise}
-use Rattle.memo.specs.declared.writer.Written.{Written}
+use Rattle.writer.specs.Writer.{Lines, WriterPromise}
+use Rattle.writer.specs.declared.Written.{Written}
 
 -- The output for an answer about x: "Its first line has four fields of 8: code .., named variable or refusal number, place .., cells";
 -- "The reading follows for 0, 1, 5."

@@ -9,7 +9,7 @@ use columns::write_field;
 use grammar::sheet::Sheet;
 use grammar::sheet::read_sheet;
 use memo::Judgement;
-use memo::writer::write;
+use writer::write;
 
 pub mod program;
 

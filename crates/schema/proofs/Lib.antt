@@ -6,13 +6,12 @@ pub mod Cell
 pub mod Ends
 pub mod Closed
 pub mod Answer
+pub mod Held
 pub mod Counted
 pub mod Walk
 pub mod Handed
 pub mod CallRefusals
-pub mod RuleWords
-pub mod Admission
-pub mod Admitted
+pub mod Tested
 pub mod SheetClosed
 pub mod LineLength
 pub mod Small

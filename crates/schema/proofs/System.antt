@@ -36,7 +36,7 @@ gts rule s = record {
   join = λ x t r. r;
 }
 
-kind-gives : (a : Act) (r : Result) → kindOf a ≡ theory.Kind.gives r → a ≡ gives r
+pub kind-gives : (a : Act) (r : Result) → kindOf a ≡ theory.Kind.gives r → a ≡ gives r
 kind-gives (gives t) r e = cc
 kind-gives (stops w) r e = absurd (clash (cc))
 kind-gives (calls B C D) r e = absurd (clash (cc))

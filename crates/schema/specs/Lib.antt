@@ -8,5 +8,3 @@ pub mod Handed
 pub mod Cases
 pub mod Line
 pub mod Closed
-pub mod Act
-pub mod Admission

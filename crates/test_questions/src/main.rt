@@ -31,7 +31,7 @@ use columns::Cursor;
 use columns::Field;
 use columns::write_field;
 use libc::STDOUT_FILENO;
-use memo::Answer;
+use walk::Answer;
 
 // What stands in a table and in an output before a call.
 const UNTOUCHED_NUMBER: u32 = 77777;
@@ -223,7 +223,7 @@ fn write(
     out: &mut [u8],
 ) -> u32 {
     fill_bytes(out);
-    let written = memo::writer::write(sheet, entry, r.variable, r.position, table, work, out);
+    let written = writer::write(sheet, entry, r.variable, r.position, table, work, out);
     let answer = written.answer;
     let four = numbers_of_answer(answer);
     print_answer(

@@ -16,9 +16,9 @@ use Rattle.schema.specs.Machine.{RunOutcome, says, spent, noFrame, Ran, ran}
 use Rattle.schema.specs.Table.{code}
 use Rattle.schema.proofs.Handed.{handed-input, handed-pair}
 use Rattle.schema.proofs.Small.{Small, small-append, small-first, call-small, refusal-small, code-small}
-use Rattle.memo.specs.Answer.{outcomeOf, told}
-use Rattle.memo.specs.Writer.{writerOf, RepliesWriting, WriterPromise}
-use Rattle.memo.specs.declared.writer.Written.{Written}
+use Rattle.walk.specs.Reply.{outcomeOf, told}
+use Rattle.writer.specs.Writer.{writerOf, RepliesWriting, WriterPromise}
+use Rattle.writer.specs.declared.Written.{Written}
 use Rattle.backtrack.specs.Run.{told as ended, Comes, Runs}
 use Rattle.backtrack.specs.declared.Ending.{Ending}
 use Rattle.backtrack.proofs.Call as machine

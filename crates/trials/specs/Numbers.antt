@@ -6,9 +6,9 @@ use Rattle.grammar.specs.Refusal.{Checked, refused, accepted}
 use Rattle.schema.specs.Derivation.{_at_, success, failure, Outcome, result, stopped, loop}
 use Rattle.schema.specs.Machine.{RunOutcome, says, spent, noFrame, Ran, ran}
 use Rattle.schema.specs.Table.{code}
-use Rattle.memo.specs.Answer.{Reply, reply, outcomeOf, told}
-use Rattle.memo.specs.Writer.{WriterPromise}
-use Rattle.memo.specs.declared.writer.Written.{Written}
+use Rattle.walk.specs.Reply.{Reply, reply, outcomeOf, told}
+use Rattle.writer.specs.Writer.{WriterPromise}
+use Rattle.writer.specs.declared.Written.{Written}
 use Rattle.backtrack.specs.Run.{told as ended, Runs}
 use Rattle.backtrack.specs.declared.Ending.{Ending}
 use Rattle.checker.specs.Checker.{Claimed, succeeds, fails, check}

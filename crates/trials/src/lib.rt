@@ -1,14 +1,14 @@
 // The machine, the writer and the checker for tests and benchmarks in other languages.
 // Each call returns 0 with its numbers in `answer`, or 100 plus the number of a refusal, with everything lent to it unchanged.
 ghost use mathlib.Core.Path.{_≡_};
-ghost use Rattle.memo.specs.Answer.{told};
+ghost use Rattle.walk.specs.Reply.{told};
 ghost use Rattle.backtrack.specs.Run.{told as ended};
 ghost use Rattle.checker.specs.Checker.{told as claimed};
 ghost use Rattle.trials.specs.Numbers.{returned, reported, Fits, ranCode, runNumbers, RunNumbers, replyCode, writerNumbers, WriterNumbers, claimCode, claimNumbers, CheckNumbers};
 use backtrack::Ending;
 use checker::Claim;
-use memo::Answer;
-use memo::Cell;
+use walk::Answer;
+use walk::Cell;
 
 // The code of a run whose moves are spent.
 const SPENT: u32 = 10000;
@@ -92,7 +92,7 @@ pub extern "C" fn trials_write(
 ) -> u32
     ensures { λ r. ⌜ WriterNumbers (now (sheet .entry)) (now (input .entry)) variable position (now (table .entry)) (now (table .exit)) (now (work .entry)) (now (work .exit)) (now (out .entry)) (now (out .exit)) (now (answer .entry)) (now (answer .exit)) r ⌝ }
 {
-    let written = memo::writer::write(sheet, input, variable, position, table, work, out);
+    let written = writer::write(sheet, input, variable, position, table, work, out);
     let found = written.answer;
     report_written(found, written.lines, answer)
 }

@@ -2,7 +2,7 @@
 use native.Mathlib.Omega.{arith}
 use denote.Ref.{now}
 use Rattle.grammar.specs.Words.{ruleIn}
-use Rattle.schema.specs.Act.{told}
+use Rattle.rules.specs.Act.{told}
 use Rattle.backtrack.proofs.Plans.{sound-top, right-bottom, right-stage0, right-stage1, right-stage2}
 use borrow.Author.Needs.{needs}
 use Rattle.backtrack.proofs.peek.Statement.{statement}

@@ -1,6 +1,6 @@
 -- `run` answers or refuses as the definitions say. Assumes nothing.
 use mathlib.Core.Path.{refl}
-use Rattle.schema.proofs.Admitted.{admitted, not-admitted}
+use Rattle.rules.proofs.Admitted.{admitted, not-admitted}
 use native.Mathlib.Omega.{arith}
 use borrow.Author.Needs.{needs}
 use Rattle.backtrack.proofs.run.Statement.{statement}

@@ -2,7 +2,7 @@
 use mathlib.Core.Path.{_∙_}
 use native.Mathlib.Omega.{arith}
 use Rattle.schema.specs.Derivation.{_at_}
-use Rattle.schema.proofs.Admitted.{admitted, not-admitted}
+use Rattle.rules.proofs.Admitted.{admitted, not-admitted}
 use Rattle.checker.proofs.Certificate.{check-refused, check-judged}
 use borrow.Author.Needs.{needs}
 use Rattle.checker.proofs.check.Statement.{statement}

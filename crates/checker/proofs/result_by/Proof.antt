@@ -1,6 +1,6 @@
 -- `result_by` gives the result that the rule of a line gives its pair. Assumes nothing.
 use mathlib.Core.Path.{refl, sym, ap, _∙_}
-use Rattle.schema.specs.Act.{told}
+use Rattle.rules.specs.Act.{told}
 use Rattle.checker.specs.Checker.{earlierLine}
 use Rattle.checker.proofs.Results.{by-act}
 use borrow.Author.Needs.{needs}

@@ -1,43 +1,48 @@
-use Rattle.memo.proofs.Asked.{may-walk, may-finish, asked}
+use Rattle.memo.proofs.Asked.{may-ask, asked}
 use borrow.Author.Needs.{needs}
 use Rattle.memo.proofs.ask.Statement.{statement}
 use Rattle.memo.proofs.ask.Tie as tie
+use Rattle.memo.proofs.ask.Reads as reads
+use Rattle.memo.proofs.ask.Lts as lts
+use Rattle.walk.proofs.ask_over.Reads as ask-over-reads
+use Rattle.walk.proofs.blank.Reads as blank-reads
 
-open-asked-requires : tie.Need-open-asked-requires
-open-asked-requires c κs = search needs
+-- src/lib.rt:528:40
+add-blank : tie.Need-add-blank
+add-blank c = search needs
 
-walk-from-requires : tie.Need-walk-from-requires
-walk-from-requires c κs =
-    let st = c .before .before .before .before .before .before .before .before .before in
-    may-walk (st .pre) (c .before .before .before .before .open-asked .ensures)
+-- src/lib.rt:528:18
+mul-blank : tie.Need-mul-blank
+mul-blank c = search needs
 
-finish-requires : tie.Need-finish-requires
-finish-requires c κs =
-    let w = c .before .before .before .before .before .before in
-    let o = w .before .before .before .before .before in
-    let st = o .before .before .before .before .before in
-    may-finish (st .pre) (o .open-asked .ensures) (w .walk-from .result) (w .walk-from .ensures)
+-- src/lib.rt:528:5
+blank-requires : tie.Need-blank-requires
+blank-requires c κs = search needs
 
+-- src/lib.rt:529:5
+ask-over-requires : tie.Need-ask-over-requires
+ask-over-requires c κs = may-ask (c .before .before .before .before .before .before .before .before .before .pre) (c .before .before .before .before .blank .ensures)
+
+-- src/lib.rt:516:1
 same-length : tie.Need-same-length
 same-length c = search needs
 
+-- src/lib.rt:516:1
 same-length-2 : tie.Need-same-length-2
 same-length-2 c = search needs
 
+-- src/lib.rt:516:1
 returns : tie.Need-returns
-returns c =
-    let w = c .before .before .before .before .before .before .before .before .before in
-    let o = w .before .before .before .before .before in
-    let st = o .before .before .before .before .before in
-    asked (st .pre) (o .open-asked .ensures) (c .before .before .finish .result) (w .walk-from .ensures) (c .before .before .finish .ensures)
+returns c = asked (c .before .before .before .before .before .before .before .before .before .before .before .before .before .before .pre) (c .before .before .before .before .before .before .before .before .before .blank .ensures) _ (c .before .before .before .before .ask-over .ensures)
 
 pub ask-spec : {M : Type 1} → statement M
 ask-spec =
     tie.close
     (tie.spec
-    open-asked-requires
-    walk-from-requires
-    finish-requires
+    add-blank
+    mul-blank
+    blank-requires
+    ask-over-requires
     same-length
     same-length-2
     returns)

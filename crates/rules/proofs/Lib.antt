@@ -1,0 +1,3 @@
+-- The rules in the array, and what is admitted.
+pub mod RuleWords
+pub mod Admitted

@@ -1,0 +1,3 @@
+-- What the functions that look at a rule promise.
+pub mod Act
+pub mod Admission

@@ -1,0 +1,19 @@
+-- Why the walk over the table finds what a question asks.
+pub mod Numbers
+pub mod Looking
+pub mod Marks
+pub mod Bridge
+pub mod RightTable
+pub mod Entry
+pub mod Through
+pub mod Still
+pub mod Ended
+pub mod Calls
+pub mod Standing
+pub mod Stepping
+pub mod Decided
+pub mod Counting
+pub mod Closing
+pub mod Finished
+pub mod Cleared
+pub mod Overs

@@ -1,0 +1,299 @@
+-- Asking over the table as it is: the walk, the closing, the count of what is new. Assumes nothing.
+use mathlib.Core.List.{List, []}
+use mathlib.Core.Logic.{_⊎_, inl, inr, _≢_}
+use mathlib.Core.Path.{_≡_, refl, sym, ap, _∙_, subst}
+use Prim.Native.Nat.{ℕ, _+_, _-_, _≤_, _<_}
+use native.Mathlib.Decide.{ℕ-discrete}
+use native.Mathlib.Omega.{arith}
+use lib.ListN.{length, getD, set, take, drop, length-set}
+use lib.Seq.{getD-set-same, getD-set-other, drop-set-lt}
+use Rattle.grammar.specs.Refusal.{Checked, accepted}
+use Rattle.grammar.specs.Rule.{Rule}
+use Rattle.schema.specs.Derivation.{Pair, _at_, Result, success, failure, missing, end, calls, act, second, Derives, Outcome, result, stopped, loop, Has}
+use Rattle.schema.specs.Reached.{Reached, itself, first-of, second-of}
+use Rattle.schema.specs.Table.{Within, cell, cells, code, decided, held, Holds, Table}
+use Rattle.schema.proofs.Answer.{reached-cell}
+use Rattle.schema.proofs.Cell.{PairWithin, cell-below}
+use Rattle.schema.proofs.Laws.{has-one}
+use Rattle.walk.specs.Reply.{Reply, reply, told, Code}
+use Rattle.walk.specs.Finish.{FinishReady, Finishes}
+use Rattle.walk.specs.Over.{OverReady, OverAnswers, Over}
+use Rattle.walk.specs.Walk.{openMark, Unsettled, Settled, Fits, fresh, Counts, before, RightTable, WalkReady, WalkEnds, HeldAt, TableMeans, TableEnds, Closes, outcomeOf, namedOf}
+use Rattle.walk.specs.declared.Answer.{Answer}
+use Rattle.walk.specs.declared.Walk.{Walk}
+use Rattle.walk.specs.declared.Walk.the-variants as walk
+use Rattle.walk.proofs.Decided.{decided-set, decided-most}
+use Rattle.walk.proofs.Finished.{close-ready, no-open, closes-counts}
+use Rattle.walk.proofs.Marks.{settled-not, code-of}
+use Rattle.walk.proofs.Numbers.{cells-small}
+
+-- The code of an outcome is no blank.
+outcome-full : (o : Outcome) → code o ≢ 0
+outcome-full (result (success q)) e = omega arith
+outcome-full (result failure) e = omega arith
+outcome-full (stopped missing) e = omega arith
+outcome-full (stopped end) e = omega arith
+outcome-full loop e = omega arith
+
+settled-closed : {n c : ℕ} (t : Result) → n ≤ 4096 → Settled n c t → c ≢ openMark
+settled-closed (success q) l m z = let e = m .code-is in let f = m .ends in omega arith
+settled-closed failure l m z = let e = m .code-is in omega arith
+
+blank-not : {n c : ℕ} (r : Result) → c ≡ 0 → Settled n c r → ⊥
+blank-not (success q) e m = let f = m .code-is in omega arith
+blank-not failure e m = let f = m .code-is in omega arith
+
+-- The asked cell is in the table.
+pub over-in : {rule : ℕ → Rule} {s : List ℕ} {v A p : ℕ} {T W : List ℕ} → OverReady rule s v A p T W → cell (length s) (A at p) < length T
+over-in {s = s} {v = v} {A = A} {p = p} r = let l = cell-below v (length s) (A at p) (r .within) in let m = r .room in omega arith
+
+-- Opening it decides it, where it is new.
+opened-counts : {rule : ℕ → Rule} {s : List ℕ} {v A p : ℕ} {T W : List ℕ} → OverReady rule s v A p T W
+    → Counts (cells v (length s)) T (set T (cell (length s) (A at p)) openMark) (fresh (held (length s) T (A at p)))
+opened-counts {s = s} {v = v} {A = A} {p = p} {T = T} r =
+    decided-set T (cells v (length s)) (cell (length s) (A at p)) openMark (cell-below v (length s) (A at p) (r .within)) (over-in r) (λ z. omega arith)
+
+-- ---- The asked pair holds no result: it is opened and walked.
+
+module _ {rule : ℕ → Rule} {s : List ℕ} {v A p : ℕ} {T W : List ℕ} (r : OverReady rule s v A p T W) (free : Unsettled (held (length s) T (A at p))) where
+  abbrev n : ℕ
+  n = length s
+
+  abbrev N : ℕ
+  N = cells v (length s)
+
+  abbrev x : ℕ
+  x = cell (length s) (A at p)
+
+  x-below : x < N
+  x-below = cell-below v (length s) (A at p) (r .within)
+
+  x-in : x < length T
+  x-in = over-in r
+
+  abbrev opened-table : List ℕ
+  opened-table = set T x openMark
+
+  abbrev O : List ℕ
+  O = before (length s) (A at p) opened-table
+
+  -- The table before the asked pair was opened: its cell is blank, the others are as they were.
+  start-asked : getD O x 0 ≡ 0
+  start-asked = getD-set-same opened-table x 0 0 (let e = length-set T x openMark in let l = x-in in omega arith)
+
+  start-other : (i : ℕ) → i ≢ x → getD O i 0 ≡ getD T i 0
+  start-other i d = getD-set-other opened-table x i 0 0 d ∙ getD-set-other T x i openMark 0 d
+
+  start-later : drop N O ≡ drop N T
+  start-later = drop-set-lt N opened-table x 0 x-below ∙ drop-set-lt N T x openMark x-below
+
+  start-size : length O ≡ length T
+  start-size = length-set opened-table x 0 ∙ length-set T x openMark
+
+  start-room : N ≤ length O
+  start-room = let e = start-size in let m = r .room in omega arith
+
+  opened-fits : (i : ℕ) → i < N → Fits (length s) (getD opened-table i 0)
+  opened-fits i l = elim (ℕ-discrete i x) [
+    | yes e ↦ inr (ap (λ (j : ℕ). getD opened-table j 0) e ∙ getD-set-same T x openMark 0 x-in)
+    | no d ↦ inl (subst (λ (c : ℕ). c ≤ 5 + length s) (sym (getD-set-other T x i openMark 0 d)) (r .in-range i l))
+  ]
+
+  start-open : (i : ℕ) → i < N → getD O i 0 ≢ openMark
+  start-open i l = elim (ℕ-discrete i x) [
+    | yes e ↦ λ z. let f : getD O i 0 ≡ 0 = ap (λ (j : ℕ). getD O j 0) e ∙ start-asked in omega arith
+    | no d ↦ λ z. let f = start-other i d in let g = r .in-range i l in let h = r .short in omega arith
+  ]
+
+  pub over-walk : WalkReady rule s v A p opened-table W
+  over-walk =
+      let e = length-set T x openMark in
+      let m = r .room in
+      record {
+        walkable = record { few = r .few; short = r .short; closed = r .closed; room = omega arith; fits = opened-fits };
+        within = r .within;
+        opened = getD-set-same T x openMark 0 x-in;
+        no-open = start-open;
+        work-room = r .work-room;
+      }
+
+  -- A right table stays one, where a cell without a result is blanked.
+  right-start : RightTable rule s v T → RightTable rule s v O
+  right-start k = record {
+    no-open = start-open;
+    right = λ B q t w m. k .right B q t w (was (B at q) t m);
+    whole = λ B C D E q t w m e.
+        let h = k .whole B C D E q t w (was (B at q) t m) e in
+        (h .0, h .1, still (C at q) (h .0) (h .2), still (second D E q (h .0)) (h .1) (h .3));
+  }
+    where
+      was : (y : Pair) (t : Result) → Settled (length s) (held (length s) O y) t → Settled (length s) (held (length s) T y) t
+      was y t m = elim (ℕ-discrete (cell (length s) y) x) [
+        | yes e ↦ absurd (blank-not t (ap (λ (j : ℕ). getD O j 0) e ∙ start-asked) m)
+        | no d ↦ subst (λ (c : ℕ). Settled (length s) c t) (start-other (cell (length s) y) d) m
+      ]
+
+      still : (y : Pair) (t : Result) → Settled (length s) (held (length s) T y) t → Settled (length s) (held (length s) O y) t
+      still y t m = elim (ℕ-discrete (cell (length s) y) x) [
+        | yes e ↦ absurd (settled-not (length s) (held (length s) T (A at p)) t (subst (λ (j : ℕ). Settled (length s) (getD T j 0) t) e m) free)
+        | no d ↦ subst (λ (c : ℕ). Settled (length s) c t) (sym (start-other (cell (length s) y) d)) m
+      ]
+
+  module _ {T₂ W₁ : List ℕ} where
+    -- The closing may begin.
+    pub over-finish : (end : Walk) → WalkEnds rule s v (A at p) O T₂ W W₁ end → FinishReady (length s) v T₂ W₁ end
+    over-finish (walk.Settled c) h =
+        let m = start-room in
+        let z = h .table .size in
+        let k = h .settled-code in
+        record { few = r .few; short = r .short; room = omega arith; code-is = code-of (length s) (c .0) (k .0) (k .1); no-open = no-open (h .table) (h .stops-at) }
+    over-finish (walk.Loop a e B q d) h = close-ready h B q 2 (r .few) (r .short) (λ z. omega arith) start-room (r .work-room) (h .stops-at)
+    over-finish (walk.Missing B q d) h = close-ready h B q 3 (r .few) (r .short) (λ z. omega arith) start-room (r .work-room) (h .stops-at)
+    over-finish (walk.End B q d) h = close-ready h B q 4 (r .few) (r .short) (λ z. omega arith) start-room (r .work-room) (h .stops-at)
+
+    module _ {T₃ : List ℕ} {end : Walk} {count : ℕ} (a : Answer) (h : WalkEnds rule s v (A at p) O T₂ W W₁ end) (f : Finishes (length s) v end count T₂ T₃ a) where
+      after-size : length T₃ ≡ length T
+      after-size = f .closes .size ∙ h .table .size ∙ start-size
+
+      inside : (y : Pair) → Reached rule s (A at p) y → PairWithin v (length s) y
+      inside y k = reached-cell rule s v (r .closed) (A at p) (r .within) k .0
+
+      module _ (means : TableMeans rule s v (A at p) O T₂ (outcomeOf end) (namedOf end)) where
+        holds-after : (y : Pair) → Reached rule s (A at p) y → Holds rule s T₃ y
+        holds-after y k = go (means .reached y k)
+          where
+            go : HeldAt rule s T₂ (outcomeOf end) y → Holds rule s T₃ y
+            go (inl g) = (result (g .0), g .1, f .closes .others (cell (length s) y) (settled-closed (g .0) (r .short) (g .2)) ∙ g .2 .code-is)
+            go (inr g) = (outcomeOf end, g .0, f .closes .opened (cell (length s) y) (cell-below v (length s) y (inside y k)) (g .1))
+
+        others-after : (B q : ℕ) → Within v (length s) B q → held (length s) T₃ (B at q) ≢ held (length s) T (B at q) → Reached rule s (A at p) (B at q)
+        others-after B q w d = means .others B q w changed
+          where
+            y : ℕ
+            y = cell (length s) (B at q)
+
+            changed : held (length s) T₂ (B at q) ≢ held (length s) O (B at q)
+            changed e = elim (ℕ-discrete (cell (length s) (B at q)) x) [
+              | yes z ↦ h .table .asked (ap (λ (j : ℕ). getD T₂ j 0) (sym z) ∙ e ∙ ap (λ (j : ℕ). getD O j 0) z ∙ start-asked)
+              | no z ↦
+                  let c : held (length s) T₂ (B at q) ≢ openMark = λ o. start-open (cell (length s) (B at q)) (cell-below v (length s) (B at q) w) (sym e ∙ o) in
+                  d (f .closes .others (cell (length s) (B at q)) c ∙ e ∙ start-other (cell (length s) (B at q)) z)
+            ]
+
+        leaves-after : Table rule s v (A at p) (held (length s) T) T T₃
+        leaves-after = record { holds = holds-after; others = others-after; later = f .closes .later ∙ h .table .later ∙ start-later; size = after-size }
+
+      -- What is answered.
+      pub over-asked : (w : ℕ) → Counts (cells v (length s)) (set T (cell (length s) (A at p)) openMark) T₂ w → count ≡ fresh (held (length s) T (A at p)) + w
+          → Over rule v s (A at p) T T₃ W W₁ (told a)
+      over-asked w c e = record {
+        replies = reply (outcomeOf end) (namedOf end) count;
+        accepts = f .says;
+        later = f .closes .later ∙ h .table .later ∙ start-later;
+        size = after-size;
+        beyond = h .work-later;
+        work-size = h .work-size;
+        counts = counted;
+        from-right = λ k.
+            let g = h .table .means (right-start k) in
+            record {
+              outcome = outcomeOf end;
+              named = namedOf end;
+              has = g .has;
+              names = g .names;
+              says = ap (reply (outcomeOf end) (namedOf end)) newly-decided;
+              leaves = leaves-after g;
+            };
+      }
+        where
+          counted : decided (take N T₃) ≡ decided (take N T) + count
+          counted =
+              let m = start-room in
+              let z = h .table .size in
+              let i = opened-counts r in
+              let j = closes-counts T₂ T₃ (outcome-full (outcomeOf end)) (omega arith) (f .closes) in
+              omega arith
+
+          newly-decided : count ≡ decided (take N T₃) - decided (take N T)
+          newly-decided = let k = counted in omega arith
+
+-- The same, from the table that the store leaves.
+module _ {rule : ℕ → Rule} {s : List ℕ} {v A p : ℕ} {T W : List ℕ} (r : OverReady rule s v A p T W) (free : Unsettled (held (length s) T (A at p))) {T₁ : List ℕ}
+    (e : T₁ ≡ set T (cell (length s) (A at p)) openMark) where
+  pub over-may-walk : WalkReady rule s v A p T₁ W
+  over-may-walk = rw e (over-walk r free)
+
+  module _ {T₂ W₁ : List ℕ} where
+    at-start : (last : Walk) → WalkEnds rule s v (A at p) (before (length s) (A at p) T₁) T₂ W W₁ last
+        → WalkEnds rule s v (A at p) (before (length s) (A at p) (set T (cell (length s) (A at p)) openMark)) T₂ W W₁ last
+    at-start last h = subst (λ (U : List ℕ). WalkEnds rule s v (A at p) (before (length s) (A at p) U) T₂ W W₁ last) e h
+
+    pub over-may-finish : (last : Walk) → WalkEnds rule s v (A at p) (before (length s) (A at p) T₁) T₂ W W₁ last → FinishReady (length s) v T₂ W₁ last
+    over-may-finish last h = over-finish r free last (at-start last h)
+
+  module _ (T₂ : List ℕ) (w m : ℕ) (c : Counts (cells v (length s)) T₁ T₂ w) (q : m ≡ fresh (held (length s) T (A at p))) where
+    counts-start : Counts (cells v (length s)) (set T (cell (length s) (A at p)) openMark) T₂ w
+    counts-start = subst (λ (U : List ℕ). Counts (cells v (length s)) U T₂ w) e c
+
+    -- The count fits.
+    pub over-small : m + w ≤ 1048832
+    over-small =
+        let a = decided-most T₂ (cells v (length s)) in
+        let b = counts-start in
+        let i = opened-counts r in
+        let k = cells-small v (length s) (r .few) (r .short) in
+        omega arith
+
+    pub over-answer : {T₃ W₁ : List ℕ} {last : Walk} (a : Answer) → WalkEnds rule s v (A at p) (before (length s) (A at p) T₁) T₂ W W₁ last
+        → Finishes (length s) v last (m + w) T₂ T₃ a → Over rule v s (A at p) T T₃ W W₁ (told a)
+    over-answer {last = last} a h f = over-asked r free a (at-start last h) f w counts-start (ap (λ (k : ℕ). k + w) q)
+
+-- ---- The asked pair holds a result: that is the answer.
+
+module _ {rule : ℕ → Rule} {s : List ℕ} {v A p : ℕ} {T W : List ℕ} (r : OverReady rule s v A p T W) (t : Result) (m : Settled (length s) (held (length s) T (A at p)) t) where
+  -- In a right table every pair that it reaches holds its result.
+  module _ (k : RightTable rule s v T) where
+    right-at : (y : Pair) (u : Result) → PairWithin v (length s) y → Settled (length s) (held (length s) T y) u → Has rule s y (result u)
+    right-at (B at q) u w h = k .right B q u w h
+
+    reached-held : {y : Pair} → Reached rule s (A at p) y → (u : Result) × Settled (length s) (held (length s) T y) u
+    reached-held itself = (t, m)
+    reached-held (first-of {A = B} {B = C} {C = D} {D = E} {p = q} i e) =
+        let h = reached-held i in
+        let w = reached-cell rule s v (r .closed) (A at p) (r .within) i .0 in
+        let g = k .whole B C D E q (h .0) w (h .1) e in
+        (g .0, g .2)
+    reached-held (second-of {A = B} {B = C} {C = D} {D = E} {p = q} {k = l} {h = o} {t = u} i e d) =
+        let h = reached-held i in
+        let w = reached-cell rule s v (r .closed) (A at p) (r .within) i .0 in
+        let g = k .whole B C D E q (h .0) w (h .1) e in
+        let z = reached-cell rule s v (r .closed) (A at p) (r .within) (first-of i e) .0 in
+        let same : result (g .0) ≡ result u = has-one rule s (C at q) (result (g .0)) (result u) (right-at (C at q) (g .0) z (g .2)) (l, o, d) in
+        let f : g .0 ≡ u = cc in
+        (g .1, subst (λ (a : Result). Settled (length s) (held (length s) T (second D E q a)) (g .1)) f (g .3))
+
+    holds-still : (y : Pair) → Reached rule s (A at p) y → Holds rule s T y
+    holds-still y i =
+        let h = reached-held i in
+        (result (h .0), right-at y (h .0) (reached-cell rule s v (r .closed) (A at p) (r .within) i .0) (h .1), h .1 .code-is)
+
+  pub over-settled : (a : Checked Reply) → a ≡ accepted (reply (result t) (0 at 0) 0) → Over rule v s (A at p) T T W W a
+  over-settled a e = record {
+    replies = reply (result t) (0 at 0) 0;
+    accepts = e;
+    later = refl;
+    size = refl;
+    beyond = refl;
+    work-size = refl;
+    counts = omega arith;
+    from-right = λ k. record {
+      outcome = result t;
+      named = 0 at 0;
+      has = k .right A p t (r .within) m;
+      names = refl;
+      says =
+          let z : 0 ≡ decided (take (cells v (length s)) T) - decided (take (cells v (length s)) T) = omega arith in
+          ap (reply (result t) (0 at 0)) z;
+      leaves = record { holds = holds-still k; others = λ B q w d. absurd (d refl); later = refl; size = refl };
+    };
+  }

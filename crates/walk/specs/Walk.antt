@@ -1,0 +1,197 @@
+-- What the walk does: what its table and its work slice hold, how it ends, and closing what it left open. Assumes nothing.
+use mathlib.Core.Bool.{Bool, true, false, cond}
+use mathlib.Core.List.{List, [], _∷_, List·Memᴰ}
+use mathlib.Core.Logic.{_⊎_, _≢_}
+use mathlib.Core.Path.{_≡_}
+use Prim.Native.Nat.{ℕ, suc, _+_, _-_, _*_, _≤_, _<_}
+use lib.Dec.{eqb}
+use lib.ListN.{length, getD, set, take, drop}
+use Rattle.grammar.specs.Rule.{Rule}
+use Rattle.schema.specs.Derivation.{Pair, _at_, Result, success, failure, missing, end, gives, calls, act, second, Outcome, result, stopped, loop, Has}
+use Rattle.schema.specs.Closed.{Closed}
+use Rattle.schema.specs.Reached.{Reached, Named}
+use Rattle.schema.specs.Table.{Within, cell, cells, code, decided, held}
+use Rattle.walk.specs.declared.Walk.{Walk}
+use Rattle.walk.specs.declared.Walk.the-variants as walk
+
+-- An open cell, of a pair that is asked and not decided yet, holds a number above every code.
+abbrev pub openMark : ℕ
+openMark = 4294967295
+
+-- A cell that the walk still has to walk: blank, or kept from a loop, a missing rule or an end.
+pub record Unsettled (c : ℕ) : Type 0 where
+  pub no-failure : c ≢ 1
+  pub no-success : c < 5
+
+-- The end of a result is a position of the n bytes.
+abbrev pub Ends : ℕ → Result → Type 0
+Ends n (success q) = q ≤ n
+Ends n failure = Unit {0}
+
+-- A cell that holds the result r, on n bytes.
+pub record Settled (n c : ℕ) (r : Result) : Type 0 where
+  pub code-is : c ≡ code (result r)
+  pub ends : Ends n r
+
+-- The code of a cell is one of these numbers, or it is open.
+abbrev pub Fits : ℕ → ℕ → Type 0
+Fits n c = (c ≤ 5 + n) ⊎ (c ≡ openMark)
+
+-- x calls y, as far as the table T tells: first, or second.
+pub data Called (rule : ℕ → Rule) (s T : List ℕ) : Bool → Pair → Pair → Type 0 where
+  first-called : {A B C D p : ℕ} → act rule s (A at p) ≡ calls B C D → Called rule s T false (A at p) (B at p)
+  second-called : {A B C D p : ℕ} {t : Result} → act rule s (A at p) ≡ calls B C D → Settled (length s) (held (length s) T (B at p)) t
+      → Called rule s T true (A at p) (second C D p t)
+
+-- x has the result r, as far as the table T tells.
+pub data Given (rule : ℕ → Rule) (s T : List ℕ) : Pair → Result → Type 0 where
+  by-leaf : {x : Pair} {r : Result} → act rule s x ≡ gives r → Given rule s T x r
+  by-calls : {A B C D p : ℕ} {t r : Result} → act rule s (A at p) ≡ calls B C D → Settled (length s) (held (length s) T (B at p)) t
+      → Settled (length s) (held (length s) T (second C D p t)) r → Given rule s T (A at p) r
+
+-- What is asked of the rules, the input and the table.
+pub record Walkable (rule : ℕ → Rule) (s : List ℕ) (v : ℕ) (T : List ℕ) : Type 0 where
+  pub few : v ≤ 256
+  pub short : length s ≤ 4096
+  pub closed : Closed v rule
+  pub room : cells v (length s) ≤ length T
+  pub fits : (i : ℕ) → i < cells v (length s) → Fits (length s) (getD T i 0)
+
+-- ---- Walking from an open pair.
+
+-- A pair as one number.
+abbrev pub packed : Pair → ℕ
+packed (A at p) = 8192 * A + p
+
+-- A caller in the work slice: the pair, and whether what it called is its second call.
+abbrev pub entry : Bool → Pair → ℕ
+entry k x = 2 * packed x + cond k 1 0
+
+-- The open pairs from the latest to the asked one, root: each was called by the next, which the work slice holds, d of them in all, the latest last.
+pub data Trail (W : List ℕ) (root : Pair) : ℕ → List Pair → Type 0 where
+  nothing-open : Trail W root 0 []
+  only-asked : Trail W root 0 (root ∷ [])
+  called-by : {d : ℕ} {x y : Pair} {ps : List Pair} (k : Bool) → ¬ List·Memᴰ y (x ∷ ps) → getD W d 0 ≡ entry k x → Trail W root d (x ∷ ps)
+      → Trail W root (suc d) (y ∷ x ∷ ps)
+
+-- A table to begin with (document 01 blanks it; a kept one serves too): no pair is open, what it holds of results is right, and what a pair with
+-- a result calls has its result in it too.
+pub record RightTable (rule : ℕ → Rule) (s : List ℕ) (v : ℕ) (O : List ℕ) : Type 0 where
+  pub no-open : (i : ℕ) → i < cells v (length s) → getD O i 0 ≢ openMark
+  pub right : (A p : ℕ) (r : Result) → Within v (length s) A p → Settled (length s) (held (length s) O (A at p)) r → Has rule s (A at p) (result r)
+  pub whole : (A B C D p : ℕ) (r : Result) → Within v (length s) A p → Settled (length s) (held (length s) O (A at p)) r → act rule s (A at p) ≡ calls B C D
+      → (t : Result) × (u : Result) × Settled (length s) (held (length s) O (B at p)) t × Settled (length s) (held (length s) O (second C D p t)) u
+
+-- The table before the asked pair x was opened in it.
+abbrev pub before : ℕ → Pair → List ℕ → List ℕ
+before n x T = set T (cell n x) 0
+
+-- What the walk asks: the asked pair open in a table, and no other, and room for a caller of each cell. The table may hold anything else.
+pub record WalkReady (rule : ℕ → Rule) (s : List ℕ) (v A p : ℕ) (T W : List ℕ) : Type 0 where
+  pub walkable : Walkable rule s v T
+  pub within : Within v (length s) A p
+  pub opened : held (length s) T (A at p) ≡ openMark
+  pub no-open : (i : ℕ) → i < cells v (length s) → getD (before (length s) (A at p) T) i 0 ≢ openMark
+  pub work-room : cells v (length s) ≤ length W
+
+-- How many cells the next number of a cell decides: one where the cell is blank.
+abbrev pub fresh : ℕ → ℕ
+fresh c = cond (eqb c 0) 1 0
+
+-- Of the first N cells, so many were given their first number between the tables T and T′.
+abbrev pub Counts : ℕ → List ℕ → List ℕ → ℕ → Type 0
+Counts N T T′ count = decided (take N T′) ≡ decided (take N T) + count
+
+-- The result that a cell's code stands for.
+abbrev pub resultOf : ℕ → Result
+resultOf c = cond (eqb c 1) failure (success (c - 5))
+
+-- What each case of the walk's answer says: the outcome.
+abbrev pub outcomeOf : Walk → Outcome
+outcomeOf (walk.Settled c) = result (resultOf (c .0))
+outcomeOf (walk.Loop A p B q d) = loop
+outcomeOf (walk.Missing A p d) = stopped missing
+outcomeOf (walk.End A p d) = stopped end
+
+-- The named pair.
+abbrev pub namedOf : Walk → Pair
+namedOf (walk.Settled c) = 0 at 0
+namedOf (walk.Loop A p B q d) = A at p
+namedOf (walk.Missing A p d) = A at p
+namedOf (walk.End A p d) = A at p
+
+-- How many callers the work slice holds.
+abbrev pub depthOf : Walk → ℕ
+depthOf (walk.Settled c) = 0
+depthOf (walk.Loop A p B q d) = d
+depthOf (walk.Missing A p d) = d
+depthOf (walk.End A p d) = d
+
+-- The open pair where the walk stopped, the last one opened first.
+abbrev pub StopsAt : Walk → List Pair → Type 0
+StopsAt (walk.Settled c) opens = opens ≡ []
+StopsAt (walk.Loop A p B q d) opens = (ps : List Pair) × (opens ≡ (B at q) ∷ ps)
+StopsAt (walk.Missing A p d) opens = (ps : List Pair) × (opens ≡ (A at p) ∷ ps)
+StopsAt (walk.End A p d) opens = (ps : List Pair) × (opens ≡ (A at p) ∷ ps)
+
+-- The cell of a result holds a code.
+abbrev pub SettledCode : ℕ → Walk → Type 0
+SettledCode n (walk.Settled c) = (r : Result) × Settled n (c .0) r
+SettledCode n (walk.Loop A p B q d) = Unit {0}
+SettledCode n (walk.Missing A p d) = Unit {0}
+SettledCode n (walk.End A p d) = Unit {0}
+
+-- What a cell of a reached pair holds where the walk ends with the outcome o: its result, or it is open and its outcome is o.
+abbrev pub HeldAt : (ℕ → Rule) → List ℕ → List ℕ → Outcome → Pair → Type 0
+HeldAt rule s T o y = ((r : Result) × Has rule s y (result r) × Settled (length s) (held (length s) T y) r) ⊎ (Has rule s y o × (held (length s) T y ≡ openMark))
+
+-- What the table T says where a question about x ends with the outcome o and the named pair: O is the table before x was opened.
+pub record TableMeans (rule : ℕ → Rule) (s : List ℕ) (v : ℕ) (x : Pair) (O T : List ℕ) (o : Outcome) (named : Pair) : Type 0 where
+  pub has : Has rule s x o
+  pub names : Named rule s x o named
+  pub reached : (y : Pair) → Reached rule s x y → HeldAt rule s T o y
+  pub others : (A p : ℕ) → Within v (length s) A p → held (length s) T (A at p) ≢ held (length s) O (A at p) → Reached rule s x (A at p)
+
+-- The table T there, and the pairs `opens` that are left open: from a kept table it means what it should, and from any table it is one to close.
+pub record TableEnds (rule : ℕ → Rule) (s : List ℕ) (v : ℕ) (x : Pair) (O T : List ℕ) (o : Outcome) (named : Pair) (opens : List Pair) : Type 0 where
+  pub means : RightTable rule s v O → TableMeans rule s v x O T o named
+  pub asked : held (length s) T x ≢ 0
+  pub on-trail : (A p : ℕ) → Within v (length s) A p → held (length s) T (A at p) ≡ openMark → List·Memᴰ (A at p) opens
+  pub trail-open : (A p : ℕ) → List·Memᴰ (A at p) opens → Within v (length s) A p × (held (length s) T (A at p) ≡ openMark)
+  pub later : drop (cells v (length s)) T ≡ drop (cells v (length s)) O
+  pub size : length T ≡ length O
+
+-- Where the walk for x ends: T and W are the table and the work slice, O and U what they were before x was opened.
+pub record WalkEnds (rule : ℕ → Rule) (s : List ℕ) (v : ℕ) (x : Pair) (O T U W : List ℕ) (r : Walk) : Type 0 where
+  pub opens : List Pair
+  pub table : TableEnds rule s v x O T (outcomeOf r) (namedOf r) opens
+  pub stops-at : StopsAt r opens
+  pub settled-code : SettledCode (length s) r
+  pub trail : Trail W x (depthOf r) opens
+  pub deep : depthOf r ≤ cells v (length s)
+  pub work-later : drop (cells v (length s)) W ≡ drop (cells v (length s)) U
+  pub work-size : length W ≡ length U
+
+-- ---- Closing what is open.
+
+-- c is stored in the open cells, from that of B at q to that of the asked pair, root, by the d callers in the work slice.
+pub record CloseReady (n v B q d c : ℕ) (T W : List ℕ) : Type 0 where
+  pub few : v ≤ 256
+  pub short : n ≤ 4096
+  pub not-open : c ≢ openMark
+  pub room : cells v n ≤ length T
+  pub work-room : cells v n ≤ length W
+  pub deep : d ≤ cells v n
+  pub root : Pair
+  pub rest : List Pair
+  pub trail : Trail W root d ((B at q) ∷ rest)
+  pub within-all : (C e : ℕ) → List·Memᴰ (C at e) ((B at q) ∷ rest) → Within v n C e
+  pub open-all : (C e : ℕ) → List·Memᴰ (C at e) ((B at q) ∷ rest) → held n T (C at e) ≡ openMark
+  pub on-trail : (C e : ℕ) → Within v n C e → held n T (C at e) ≡ openMark → List·Memᴰ (C at e) ((B at q) ∷ rest)
+
+-- Every open cell of the first N holds c, and no other cell changes.
+pub record Closes (N c : ℕ) (T T′ : List ℕ) : Type 0 where
+  pub opened : (i : ℕ) → i < N → getD T i 0 ≡ openMark → getD T′ i 0 ≡ c
+  pub others : (i : ℕ) → getD T i 0 ≢ openMark → getD T′ i 0 ≡ getD T i 0
+  pub later : drop N T′ ≡ drop N T
+  pub size : length T′ ≡ length T

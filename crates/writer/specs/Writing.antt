@@ -1,0 +1,169 @@
+-- What the steps of the writer do, once the question is answered: it goes from pair to pair over the finished table and lays their lines down.
+-- The work slice holds for each cell 0, a link to the pair that called its pair, or twice the number of its line. Assumes nothing.
+use mathlib.Core.Bool.{Bool, true, false}
+use mathlib.Core.List.{List, [], _++_}
+use mathlib.Core.Logic.{_⊎_, _≢_}
+use mathlib.Core.Path.{_≡_}
+use Prim.Native.Nat.{ℕ, _+_, _*_, _/_, _%_, _≤_, _<_}
+use lib.ListN.{length, getD, set, take, drop}
+use Rattle.grammar.specs.Refusal.{Checked, refused, accepted}
+use Rattle.grammar.specs.Rule.{Rule}
+use Rattle.schema.specs.Closed.{Variable, Closed}
+use Rattle.schema.specs.Derivation.{Pair, _at_, Result, calls, act, second, result, stopped, loop, Has}
+use Rattle.schema.specs.Line.{Line, lineOf, lineBytes, linesBytes}
+use Rattle.schema.specs.Reached.{Reached}
+use Rattle.schema.specs.Table.{Within, cell, cells, held}
+use Rattle.walk.specs.Reply.{Reply, reply}
+use Rattle.memo.specs.Answer.{AskReady}
+use Rattle.walk.specs.Walk.{packed, Settled, resultOf}
+use Rattle.writer.specs.Writer.{Visits}
+use Rattle.writer.specs.declared.Place.{Place}
+use Rattle.writer.specs.declared.Turn.{Turn}
+use Rattle.writer.specs.declared.Turn.the-variants as turn
+use Rattle.writer.specs.declared.Step.{Step}
+use Rattle.writer.specs.declared.Step.the-variants as step
+
+-- The number that the work slice holds for a pair called by x, and for the asked pair, which none called.
+abbrev pub link : Pair → ℕ
+link x = 2 * packed x + 1
+
+abbrev pub noLink : ℕ
+noLink = 1
+
+-- ---- What is next at a pair.
+
+-- A pair at p with a result calls b, which has a result too, then c or d.
+pub record CallsReady (n p b c d : ℕ) (T W : List ℕ) : Type 0 where
+  pub variables : ℕ
+  pub few : variables ≤ 256
+  pub short : n ≤ 4096
+  pub room : cells variables n ≤ length T
+  pub work-room : cells variables n ≤ length W
+  pub position-in : p ≤ n
+  pub b-in : Variable variables b
+  pub c-in : Variable variables c
+  pub d-in : Variable variables d
+  pub found : Result
+  pub first : Settled n (held n T (b at p)) found
+
+-- The second called pair, z, is next if it has no line; else the caller's own line, with the numbers of both.
+abbrev pub TurnsSecond : ℕ → List ℕ → ℕ → Pair → Turn → Type 0
+TurnsSecond n W number z (turn.Down B q) = (z ≡ B at q) × (held n W z ≡ 0)
+TurnsSecond n W number z (turn.Line i j) = (held n W z ≢ 0) × (i ≡ number / 2) × (j ≡ held n W z / 2)
+
+-- The same from the first called pair on, y.
+abbrev pub TurnsCalls : ℕ → List ℕ → Pair → Pair → Turn → Type 0
+TurnsCalls n W y z (turn.Down B q) = ((y ≡ B at q) × (held n W y ≡ 0)) ⊎ ((held n W y ≢ 0) × (z ≡ B at q) × (held n W z ≡ 0))
+TurnsCalls n W y z (turn.Line i j) = (held n W y ≢ 0) × (held n W z ≢ 0) × (i ≡ held n W y / 2) × (j ≡ held n W z / 2)
+
+-- y is called by x and has no line.
+pub data Lower (rule : ℕ → Rule) (s T W : List ℕ) : Pair → Pair → Type 0 where
+  to-first : {A B C D p : ℕ} → act rule s (A at p) ≡ calls B C D → held (length s) W (B at p) ≡ 0 → Lower rule s T W (A at p) (B at p)
+  to-second : {A B C D p : ℕ} {t : Result} → act rule s (A at p) ≡ calls B C D → Settled (length s) (held (length s) T (B at p)) t
+      → held (length s) W (B at p) ≢ 0 → held (length s) W (second C D p t) ≡ 0 → Lower rule s T W (A at p) (second C D p t)
+
+-- What x calls has lines, i and j; "both 0 for a leaf".
+pub data Own (rule : ℕ → Rule) (s T W : List ℕ) : Pair → ℕ → ℕ → Type 0 where
+  of-leaf : {x : Pair} → ((B C D : ℕ) → act rule s x ≢ calls B C D) → Own rule s T W x 0 0
+  of-calls : {A B C D p : ℕ} {t : Result} → act rule s (A at p) ≡ calls B C D → Settled (length s) (held (length s) T (B at p)) t
+      → held (length s) W (B at p) ≢ 0 → held (length s) W (second C D p t) ≢ 0
+      → Own rule s T W (A at p) (held (length s) W (B at p) / 2) (held (length s) W (second C D p t) / 2)
+
+-- What is next at x.
+abbrev pub Turns : (ℕ → Rule) → List ℕ → List ℕ → List ℕ → Pair → Turn → Type 0
+Turns rule s T W x (turn.Down B q) = Lower rule s T W x (B at q)
+Turns rule s T W x (turn.Line i j) = Own rule s T W x i j
+
+-- The pair A at p has a result in the table, and so has the first pair that it calls.
+pub record TurnReady (rule : ℕ → Rule) (s : List ℕ) (v A p : ℕ) (T W : List ℕ) : Type 0 where
+  pub few : v ≤ 256
+  pub short : length s ≤ 4096
+  pub closed : Closed v rule
+  pub within : Within v (length s) A p
+  pub room : cells v (length s) ≤ length T
+  pub work-room : cells v (length s) ≤ length W
+  pub found : Result
+  pub settled : Settled (length s) (held (length s) T (A at p)) found
+  pub first : (B C D : ℕ) → act rule s (A at p) ≡ calls B C D → (t : Result) × Settled (length s) (held (length s) T (B at p)) t
+
+-- ---- A step.
+
+-- The pair of a place.
+abbrev pub pairAt : Place → Pair
+pairAt x = x .variable at x .position
+
+-- What a step asks: room for a line more.
+pub record StepReady (rule : ℕ → Rule) (s : List ℕ) (v : ℕ) (T W out : List ℕ) (x : Place) : Type 0 where
+  pub turns : TurnReady rule s v (x .variable) (x .position) T W
+  pub few-lines : x .lines < cells v (length s)
+  pub out-room : 49 * cells v (length s) ≤ length out
+
+-- A called pair is next, linked to its caller.
+pub record Descends (rule : ℕ → Rule) (s T W out W′ out′ : List ℕ) (x y : Place) : Type 0 where
+  pub lower : Lower rule s T W (pairAt x) (pairAt y)
+  pub work-is : W′ ≡ set W (cell (length s) (pairAt y)) (link (pairAt x))
+  pub out-same : out′ ≡ out
+  pub lines-same : y .lines ≡ x .lines
+
+-- The line of the pair is laid down after those already written, and its number noted.
+pub record Lays (rule : ℕ → Rule) (s T W out W′ out′ : List ℕ) (x : Place) : Type 0 where
+  pub first : ℕ
+  pub second : ℕ
+  pub own : Own rule s T W (pairAt x) first second
+  pub line : out′ ≡ take (49 * x .lines) out
+      ++ (lineBytes (lineOf (pairAt x) (resultOf (held (length s) T (pairAt x))) first second) ++ drop (49 * x .lines + 49) out)
+  pub work-is : W′ ≡ set W (cell (length s) (pairAt x)) (2 * (x .lines + 1))
+
+-- The pair of its link is next.
+pub record Returns (s W : List ℕ) (x y : Place) : Type 0 where
+  pub linked : held (length s) W (pairAt x) ≢ noLink
+  pub variable-is : y .variable ≡ held (length s) W (pairAt x) / 16384
+  pub position-is : y .position ≡ held (length s) W (pairAt x) / 2 % 8192
+  pub lines-are : y .lines ≡ x .lines + 1
+
+-- One step from x.
+abbrev pub Steps : (ℕ → Rule) → List ℕ → List ℕ → List ℕ → List ℕ → List ℕ → List ℕ → Place → Step → Type 0
+Steps rule s T W out W′ out′ x (step.On y) = Descends rule s T W out W′ out′ x y ⊎ (Lays rule s T W out W′ out′ x × Returns s W x y)
+Steps rule s T W out W′ out′ x (step.Ended count) =
+    Lays rule s T W out W′ out′ x × (held (length s) W (pairAt x) ≡ noLink) × (count ≡ x .lines + 1)
+
+-- ---- The walk.
+
+-- The table holds the results of the pairs that x reaches.
+abbrev pub Finished : (ℕ → Rule) → List ℕ → Pair → List ℕ → Type 0
+Finished rule s x T = (y : Pair) (r : Result) → Reached rule s x y → Has rule s y (result r) → Settled (length s) (held (length s) T y) r
+
+-- What is asked for the lines of a pair that has a result.
+pub record LinesReady (rule : ℕ → Rule) (s : List ℕ) (v A p : ℕ) (T W out : List ℕ) : Type 0 where
+  pub ready : AskReady rule s v A p T W
+  pub finished : Finished rule s (A at p) T
+  pub found : Result
+  pub has : Has rule s (A at p) (result found)
+  pub out-room : 49 * cells v (length s) ≤ length out
+
+-- The asked pair is the only one with a link, which says that none called it.
+pub record WriteReady (rule : ℕ → Rule) (s : List ℕ) (v A p : ℕ) (T W out : List ℕ) : Type 0 where
+  pub lines : LinesReady rule s v A p T W out
+  pub root : held (length s) W (A at p) ≡ noLink
+  pub others : (i : ℕ) → i < cells v (length s) → i ≢ cell (length s) (A at p) → getD W i 0 ≡ 0
+
+-- The lines are written, and the work slice is as it was beyond its cells.
+pub record WriteEnds (rule : ℕ → Rule) (s : List ℕ) (v : ℕ) (x : Pair) (U W out out′ : List ℕ) (count : ℕ) : Type 0 where
+  pub beyond : drop (cells v (length s)) W ≡ drop (cells v (length s)) U
+  pub size : length W ≡ length U
+  pub lines : List Line
+  pub ordered : Visits rule s [] x lines
+  pub counted : count ≡ length lines
+  pub written : out′ ≡ linesBytes lines ++ drop (49 * length lines) out
+
+-- What asking and writing is handed, once the refusals are tested.
+pub record AskWriteReady (rule : ℕ → Rule) (s : List ℕ) (v A p : ℕ) (T W out : List ℕ) : Type 0 where
+  pub ready : AskReady rule s v A p T W
+  pub out-room : 49 * cells v (length s) ≤ length out
+
+-- The answer is success or failure.
+abbrev pub hasResult : Checked Reply → Bool
+hasResult (refused number line) = false
+hasResult (accepted (reply (result r) z count)) = true
+hasResult (accepted (reply (stopped w) z count)) = false
+hasResult (accepted (reply loop z count)) = false
