@@ -16,7 +16,6 @@ pub mod Laws
 pub mod Holding
 pub mod Carry
 pub mod Cells
-pub mod Links
 pub mod Depth
 pub mod Numbered
 pub mod Listed

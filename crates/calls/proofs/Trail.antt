@@ -79,6 +79,11 @@ module _ {A E : Type 0} (σ : System ℕ A E) where
   trail-root start = inl refl
   trail-root (push t n l) = inr (trail-root t)
 
+  -- Where the top is the asked pair, nothing is under it.
+  pub at-root : {T : ℕ → Mark A} {root x : ℕ} {s : List ℕ} → x ≡ root → Trail T root (x ∷ s) → s ≡ []
+  at-root r start = refl
+  at-root {x = x} r (push {x = y} {s = s} t n l) = absurd (n (subst (λ (u : ℕ). In u (y ∷ s)) (sym r) (trail-root t)))
+
   -- Each pair under the top calls one of the trail.
   pub trail-link : {T : ℕ → Mark A} {root t x : ℕ} {s : List ℕ} → Trail T root (t ∷ s) → In x s → (y : ℕ) × In y (t ∷ s) × Link T x y
   trail-link start i = absurd i

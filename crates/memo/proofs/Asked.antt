@@ -3,9 +3,10 @@ use mathlib.Core.Path.{_≡_, ap, _∙_}
 use mathlib.Core.List.{List}
 use Prim.Native.Nat.{ℕ, _-_, _≤_, _<_}
 use native.Mathlib.Omega.{arith}
-use lib.ListN.{length, getD, take, drop}
+use lib.ListN.{length, take, drop}
 use Rattle.grammar.specs.Refusal.{Checked}
 use Rattle.grammar.specs.Rule.{Rule}
+use Rattle.schema.specs.Cells.{heldAt}
 use Rattle.schema.specs.Derivation.{_at_}
 use Rattle.schema.specs.Table.{cell, cells, decided}
 use Rattle.schema.proofs.Cell.{cell-below}
@@ -19,8 +20,8 @@ module _ {rule : ℕ → Rule} {s : List ℕ} {v A p : ℕ} {T W : List ℕ} (r 
   abbrev N : ℕ
   N = cells v (length s)
 
-  blank-at : (i : ℕ) → i < N → getD T₁ i 0 ≡ 0
-  blank-at i l = ap (λ (C : List ℕ). getD C i 0) e ∙ cleared-at N T i l
+  blank-at : (i : ℕ) → i < N → heldAt T₁ i ≡ 0
+  blank-at i l = ap (λ (C : List ℕ). heldAt C i) e ∙ cleared-at N T i l
 
   blank-length : length T₁ ≡ length T
   blank-length = ap length e ∙ cleared-length N T (r .room)

@@ -6,17 +6,19 @@ use Prim.Native.Nat.{ℕ, zero, suc, _+_, _/_, _%_, _≤_, _<_}
 use native.Mathlib.Decide.{ℕ-discrete}
 use native.Mathlib.Numerals.{add-one}
 use native.Mathlib.Omega.{arith}
-use lib.ListN.{length, getD, take}
+use lib.ListN.{length, take}
 use Rattle.calls.proofs.Count.{Count, none, hit, miss, count-map, count-le}
 use Rattle.grammar.specs.Refusal.{accepted}
 use Rattle.grammar.specs.Sheet.{Grammar}
+use Rattle.schema.specs.Cells.{heldAt}
 use Rattle.schema.specs.Closed.{Closed}
-use Rattle.schema.specs.Derivation.{Pair, success, failure, missing, end, Outcome, result, stopped, loop, Has}
+use Rattle.schema.specs.Derivation.{Pair, Outcome, Has}
 use Rattle.schema.specs.Handed.{Handed, handed}
 use Rattle.schema.specs.Reached.{Reached, Named, Number}
-use Rattle.schema.specs.Table.{cells, held, decided, code}
+use Rattle.schema.specs.Table.{cells, held, decided}
 use Rattle.schema.proofs.Answer.{reached-cell}
 use Rattle.schema.proofs.Cell.{pairOf, cell-pair, pair-within, PairWithin}
+use Rattle.schema.proofs.Codes.{code-full}
 use Rattle.schema.proofs.Counted.{number-cells}
 use Rattle.schema.proofs.Handed.{handed-sheet}
 use Rattle.schema.proofs.Laws.{has-one, named-one, number-one}
@@ -27,21 +29,14 @@ use Rattle.walk.proofs.Decided.{decided-none, decided-blank, decided-more}
 use Rattle.memo.proofs.TableOne.{table-one}
 
 -- The count of decided cells counts the cells that are not blank.
-decided-count : (T : List ℕ) (m : ℕ) → m ≤ length T → Count (λ i. getD T i 0 ≢ 0) m (decided (take m T))
-decided-count T zero l = subst (Count (λ i. getD T i 0 ≢ 0) 0) (sym (decided-none T)) none
+decided-count : (T : List ℕ) (m : ℕ) → m ≤ length T → Count (λ i. heldAt T i ≢ 0) m (decided (take m T))
+decided-count T zero l = subst (Count (λ i. heldAt T i ≢ 0) 0) (sym (decided-none T)) none
 decided-count T (suc m) l =
     let before = decided-count T m (omega arith) in
-    elim (ℕ-discrete (getD T m 0) 0) [
+    elim (ℕ-discrete (heldAt T m) 0) [
       | yes e ↦ rw (← add-one m, decided-blank T m (omega arith) e) (rw (add-one m) (miss (λ d. d e) before))
       | no d ↦ rw (← add-one m, decided-more T m (omega arith) d, add-one (decided (take m T)), add-one m) (hit d before)
     ]
-
-some-code : (o : Outcome) → code o ≢ 0
-some-code (result (success q)) e = omega arith
-some-code (result failure) e = omega arith
-some-code (stopped missing) e = omega arith
-some-code (stopped end) e = omega arith
-some-code loop e = omega arith
 
 -- ---- Of an answer, whatever call gave it.
 
@@ -58,17 +53,17 @@ module _ (s : List ℕ) (h : Handed) (g : Grammar) (accepts : handed s h ≡ acc
   closed : Closed (g .variables) (g .rule)
   closed = sheet-closed s g (handed-sheet s h g accepts)
 
-  at-cell : (T : List ℕ) (i : ℕ) → held n T (pairOf n i) ≡ getD T i 0
-  at-cell T i = ap (λ (k : ℕ). getD T k 0) (cell-pair n i)
+  at-cell : (T : List ℕ) (i : ℕ) → held n T (pairOf n i) ≡ heldAt T i
+  at-cell T i = ap (λ (k : ℕ). heldAt T k) (cell-pair n i)
 
   module _ {table table′ work work′ : List ℕ} {a : Reply} (room : cells (g .variables) (length (h .input)) ≤ length table)
       (answers : Answers (g .rule) (g .variables) (h .input) x table table′ work work′ a) where
     -- A cell is blank exactly if its pair is not reached.
-    filled : (i : ℕ) → i < size → (getD table′ i 0 ≢ 0) ↔ Reached (g .rule) input x (pairOf n i)
+    filled : (i : ℕ) → i < size → (heldAt table′ i ≢ 0) ↔ Reached (g .rule) input x (pairOf n i)
     filled i l =
         let e = at-cell table′ i in (
           λ d. answers .leaves .others (i / (n + 1) + 1) (i % (n + 1)) (pair-within (g .variables) n i l) (λ q. d (sym e ∙ q)),
-          λ r. let k = answers .leaves .holds (pairOf n i) r in λ q. some-code (k .0) (sym (k .2) ∙ e ∙ q),
+          λ r. let k = answers .leaves .holds (pairOf n i) r in λ q. code-full (k .0) (sym (k .2) ∙ e ∙ q),
         )
 
     counted : Count (λ i. Reached (g .rule) input x (pairOf n i)) size (decided (take size table′))

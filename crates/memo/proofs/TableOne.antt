@@ -6,10 +6,11 @@ use Prim.Native.Nat.{ℕ, _+_, _-_, _<_}
 use native.Mathlib.Decide.{ℕ-discrete}
 use native.Mathlib.Omega.{arith}
 use lib.Dec.{ltb}
-use lib.ListN.{length, getD, drop}
+use lib.ListN.{length, drop}
 use borrow.Author.Tests.{ltb-true, ltb-false}
 use lib.Seq.{ext-getD, getD-drop}
 use Rattle.grammar.specs.Rule.{Rule}
+use Rattle.schema.specs.Cells.{heldAt}
 use Rattle.schema.specs.Derivation.{Pair}
 use Rattle.schema.specs.Reached.{Reached}
 use Rattle.schema.specs.Table.{cells, code, held, blanked, Table}
@@ -39,14 +40,14 @@ module _ {rule : ℕ → Rule} {s : List ℕ} {v : ℕ} {x : Pair} {O P T U : Li
   pub table-one : drop (cells v (length s)) T ≡ drop (cells v (length s)) U → length T ≡ length U → T ≡ U
   table-one e z = ext-getD 0 T U z at-each
     where
-      at-each : (i : ℕ) → i < length T → getD T i 0 ≡ getD U i 0
+      at-each : (i : ℕ) → i < length T → heldAt T i ≡ heldAt U i
       at-each i l = by-test (ltb i (cells v (length s))) refl
         where
-          by-test : (b : Bool) → ltb i (cells v (length s)) ≡ b → getD T i 0 ≡ getD U i 0
+          by-test : (b : Bool) → ltb i (cells v (length s)) ≡ b → heldAt T i ≡ heldAt U i
           by-test true h = rw (cell-pair (length s) i) at (within-same i (ltb-true i (cells v (length s)) h))
           by-test false h =
               let k = ltb-false i (cells v (length s)) h in
               let q : cells v (length s) + (i - cells v (length s)) ≡ i = omega arith in
-              ap (λ (j : ℕ). getD T j 0) (sym q) ∙ sym (getD-drop (cells v (length s)) T (i - cells v (length s)) 0)
-              ∙ ap (λ (D : List ℕ). getD D (i - cells v (length s)) 0) e ∙ getD-drop (cells v (length s)) U (i - cells v (length s)) 0
-              ∙ ap (λ (j : ℕ). getD U j 0) q
+              ap (λ (j : ℕ). heldAt T j) (sym q) ∙ sym (getD-drop (cells v (length s)) T (i - cells v (length s)) 0)
+              ∙ ap (λ (D : List ℕ). heldAt D (i - cells v (length s))) e ∙ getD-drop (cells v (length s)) U (i - cells v (length s)) 0
+              ∙ ap (λ (j : ℕ). heldAt U j) q

@@ -5,7 +5,7 @@ use Prim.Native.Nat.{ℕ}
 use lib.ListN.{length}
 use Rattle.grammar.specs.Refusal.{Checked, refused, accepted}
 use Rattle.grammar.specs.Sheet.{Grammar}
-use Rattle.schema.specs.Derivation.{Pair, _at_, success, failure, Outcome, result, stopped, loop}
+use Rattle.schema.specs.Derivation.{_at_, success, failure, Outcome, result, stopped, loop}
 use Rattle.schema.specs.Handed.{handed, verdictOf}
 use Rattle.schema.specs.Verdict.{verdictCode}
 use Rattle.walk.specs.Reply.{Reply, reply}

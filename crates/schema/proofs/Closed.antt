@@ -12,7 +12,7 @@ use Rattle.calls.proofs.System.{Means, value}
 use Rattle.grammar.specs.Class.{classOf}
 use Rattle.grammar.specs.Rule.{Rule, absent, always, never, byte, class, call}
 use Rattle.schema.specs.Derivation.{Pair, _at_, Result, success, failure, gives, calls, atEnd, actOf, act, second, Derives}
-use Rattle.schema.specs.Closed.{Variable, ClosedRule, Closed}
+use Rattle.schema.specs.Closed.{Variable, Closed}
 use Rattle.schema.specs.Table.{cell, cells}
 use Rattle.schema.proofs.Cell.{pairOf, PairWithin, cell-below, pair-cell, cell-pair, pair-within}
 use Rattle.schema.proofs.Ends.{EndsWithin, derives-ends}

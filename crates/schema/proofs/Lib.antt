@@ -1,4 +1,6 @@
 -- What the definitions of the schema give.
+pub mod Cells
+pub mod Codes
 pub mod System
 pub mod Waiting
 pub mod Laws

@@ -2,6 +2,7 @@
 pub mod Derivation
 pub mod Reached
 pub mod Table
+pub mod Cells
 pub mod Machine
 pub mod Verdict
 pub mod Handed

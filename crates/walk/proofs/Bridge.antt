@@ -8,13 +8,13 @@ use lib.ListN.{length}
 use Rattle.calls.proofs.Clash.{clash}
 use Rattle.calls.proofs.Holding.{holding, holding-free}
 use Rattle.calls.proofs.Invariant.{Inv, Bounded, both-fits}
-use Rattle.calls.proofs.Links.{view}
 use Rattle.calls.proofs.Numbered.{kind-number, first-number, second-number, join-number}
 use Rattle.calls.proofs.System as theory
 use Rattle.calls.proofs.System.{System}
-use Rattle.calls.proofs.Table.{Mark, settled}
+use Rattle.calls.proofs.Table.{settled}
 use Rattle.calls.proofs.Trail.{Link, link-first, link-second, Fits, leaf-fits}
 use Rattle.grammar.specs.Rule.{Rule}
+use Rattle.schema.proofs.Cells.{view}
 use Rattle.schema.specs.Closed.{Closed}
 use Rattle.schema.specs.Derivation.{Pair, _at_, Result, Stop, calls, act, second}
 use Rattle.schema.specs.Table.{cell, cells, held}
@@ -41,10 +41,7 @@ module _ (rule : ℕ → Rule) (s : List ℕ) (v : ℕ) (closed : Closed v rule)
   cell-kind x w = kind-number (numbering rule s v closed) x w
 
   module _ (A p B C D : ℕ) (w : PairWithin v (length s) (A at p)) (e : act rule s (A at p) ≡ calls B C D) where
-    -- A pair that calls: its kind, its first and its second.
-    pub cell-calls : gtsCells rule s .kind (cell (length s) (A at p)) ≡ theory.Kind.calls
-    cell-calls = cell-kind (A at p) w ∙ ap kindOf e
-
+    -- A pair that calls: its first and its second.
     pub cell-first : gtsCells rule s .first (cell (length s) (A at p)) ≡ cell (length s) (B at p)
     cell-first = first-number (numbering rule s v closed) (A at p) w ∙ ap (cell (length s)) (first-is rule s A p e)
 

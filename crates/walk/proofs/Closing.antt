@@ -7,11 +7,11 @@ use Prim.Native.Nat.{ℕ, suc, _/_, _%_, _≤_, _<_}
 use native.Mathlib.Decide.{ℕ-discrete}
 use native.Mathlib.Omega.{arith}
 use lib.Dec.{eqb}
-use lib.ListN.{length, getD, set, drop, length-set}
-use lib.Seq.{getD-set-same, getD-set-other, drop-set-lt}
+use lib.ListN.{length, getD, drop}
 use borrow.Author.Tests.{ne-eqb}
-use Rattle.calls.proofs.Links.{view, put-set}
 use Rattle.calls.proofs.Table.{Mark, opened, settled, cost, weight, weight-falls}
+use Rattle.schema.specs.Cells.{heldAt, stored}
+use Rattle.schema.proofs.Cells.{stored-there, stored-elsewhere, stored-later, stored-length, view, view-stored}
 use Rattle.schema.specs.Derivation.{Pair, _at_, Result, failure}
 use Rattle.schema.specs.Table.{Within, cell, cells, held}
 use Rattle.schema.proofs.Cell.{pairOf, PairWithin, cell-below, cell-one, cell-pair, pair-within}
@@ -47,8 +47,8 @@ pub record Closing (n v c : ℕ) (T₀ T W : List ℕ) (a p d : ℕ) : Type 0 wh
   pub deep : d ≤ cells v n
   pub within-all : (y : Pair) → List·Memᴰ y ((a at p) ∷ rest) → PairWithin v n y
   pub open-all : (y : Pair) → List·Memᴰ y ((a at p) ∷ rest) → held n T y ≡ openMark
-  pub kept : (i : ℕ) → getD T₀ i 0 ≢ openMark → getD T i 0 ≡ getD T₀ i 0
-  pub done : (i : ℕ) → i < cells v n → getD T₀ i 0 ≡ openMark → (getD T i 0 ≡ c) ⊎ List·Memᴰ (pairOf n i) ((a at p) ∷ rest)
+  pub kept : (i : ℕ) → heldAt T₀ i ≢ openMark → heldAt T i ≡ heldAt T₀ i
+  pub done : (i : ℕ) → i < cells v n → heldAt T₀ i ≡ openMark → (heldAt T i ≡ c) ⊎ List·Memᴰ (pairOf n i) ((a at p) ∷ rest)
   pub later : drop (cells v n) T ≡ drop (cells v n) T₀
   pub size : length T ≡ length T₀
 
@@ -71,7 +71,7 @@ module _ {n v B q c depth : ℕ} {T₀ W : List ℕ} (r : CloseReady n v B q dep
     within-all = within-pair;
     open-all = open-pair;
     kept = λ i d. refl;
-    done = λ i l e. inr (on-pair (pairOf n i) (pair-within v n i l) (ap (λ (j : ℕ). getD T₀ j 0) (cell-pair n i) ∙ e));
+    done = λ i l e. inr (on-pair (pairOf n i) (pair-within v n i l) (ap (λ (j : ℕ). heldAt T₀ j) (cell-pair n i) ∙ e));
     later = refl;
     size = refl;
   }
@@ -86,39 +86,39 @@ module _ {n v B q c depth : ℕ} {T₀ W : List ℕ} (r : CloseReady n v B q dep
     pub top-in : cell n (a at d) < length T
     top-in = let l = top-below in let m = r .room in let z = g .size in omega arith
 
-    top-open : getD T (cell n (a at d)) 0 ≡ openMark
+    top-open : heldAt T (cell n (a at d)) ≡ openMark
     top-open = g .open-all (a at d) (List·Memᴰ.List·Memᴰ·head refl)
 
-    pub close-falls : weight (view openOr (set T (cell n (a at d)) c)) (cells v n) < weight (view openOr T) (cells v n)
+    pub close-falls : weight (view openOr (stored T (cell n (a at d)) c)) (cells v n) < weight (view openOr T) (cells v n)
     unfolding cost openOr
     close-falls =
         let o = ap (λ (k : ℕ). cost (openOr k)) top-open in
         let z = ap cost (ap (λ t. cond t opened (settled failure)) (ne-eqb c openMark (r .not-open))) in
-        weight-falls (cells v n) top-below (put-set openOr T (cell n (a at d)) c top-in) (omega arith)
+        weight-falls (cells v n) top-below (view-stored openOr T (cell n (a at d)) c top-in) (omega arith)
 
     -- What is so of the table once the cell is closed.
-    kept-after : (i : ℕ) → getD T₀ i 0 ≢ openMark → getD (set T (cell n (a at d)) c) i 0 ≡ getD T₀ i 0
+    kept-after : (i : ℕ) → heldAt T₀ i ≢ openMark → heldAt (stored T (cell n (a at d)) c) i ≡ heldAt T₀ i
     kept-after i f = elim (ℕ-discrete i (cell n (a at d))) [
-      | yes e ↦ absurd (f (sym (g .kept i f) ∙ ap (λ (j : ℕ). getD T j 0) e ∙ top-open))
-      | no e ↦ getD-set-other T (cell n (a at d)) i c 0 e ∙ g .kept i f
+      | yes e ↦ absurd (f (sym (g .kept i f) ∙ ap (λ (j : ℕ). heldAt T j) e ∙ top-open))
+      | no e ↦ stored-elsewhere T (cell n (a at d)) i c e ∙ g .kept i f
     ]
 
-    done-after : (i : ℕ) → i < cells v n → getD T₀ i 0 ≡ openMark → (getD (set T (cell n (a at d)) c) i 0 ≡ c) ⊎ List·Memᴰ (pairOf n i) (g .rest)
+    done-after : (i : ℕ) → i < cells v n → heldAt T₀ i ≡ openMark → (heldAt (stored T (cell n (a at d)) c) i ≡ c) ⊎ List·Memᴰ (pairOf n i) (g .rest)
     done-after i l e = elim (ℕ-discrete i (cell n (a at d))) [
-      | yes h ↦ inl (ap (λ (j : ℕ). getD (set T (cell n (a at d)) c) j 0) h ∙ getD-set-same T (cell n (a at d)) c 0 top-in)
+      | yes h ↦ inl (ap (λ (j : ℕ). heldAt (stored T (cell n (a at d)) c) j) h ∙ stored-there T (cell n (a at d)) c top-in)
       | no h ↦ was h (g .done i l e)
     ]
       where
-        was : (i ≡ cell n (a at d) → ⊥) → (getD T i 0 ≡ c) ⊎ List·Memᴰ (pairOf n i) ((a at d) ∷ g .rest)
-            → (getD (set T (cell n (a at d)) c) i 0 ≡ c) ⊎ List·Memᴰ (pairOf n i) (g .rest)
-        was h (inl k) = inl (getD-set-other T (cell n (a at d)) i c 0 h ∙ k)
+        was : (i ≡ cell n (a at d) → ⊥) → (heldAt T i ≡ c) ⊎ List·Memᴰ (pairOf n i) ((a at d) ∷ g .rest)
+            → (heldAt (stored T (cell n (a at d)) c) i ≡ c) ⊎ List·Memᴰ (pairOf n i) (g .rest)
+        was h (inl k) = inl (stored-elsewhere T (cell n (a at d)) i c h ∙ k)
         was h (inr m) = elim (List·Memᴰ·cases-cons m) [
           | inl k ↦ absurd (h (sym (cell-pair n i) ∙ ap (cell n) k))
           | inr k ↦ inr k
         ]
 
     -- The asked pair was the last.
-    pub closes : left ≡ 0 → Closes (cells v n) c T₀ (set T (cell n (a at d)) c)
+    pub closes : left ≡ 0 → Closes (cells v n) c T₀ (stored T (cell n (a at d)) c)
     closes e =
         let none = at-asked (subst (λ (k : ℕ). Trail W (g .root) k ((a at d) ∷ g .rest)) e (g .trail)) in
         record {
@@ -127,19 +127,19 @@ module _ {n v B q c depth : ℕ} {T₀ W : List ℕ} (r : CloseReady n v B q dep
             | inr m ↦ absurd (List·Memᴰ·not-nil (subst (List·Memᴰ (pairOf n i)) none m))
           ];
           others = kept-after;
-          later = drop-set-lt (cells v n) T (cell n (a at d)) c top-below ∙ g .later;
-          size = length-set T (cell n (a at d)) c ∙ g .size;
+          later = stored-later (cells v n) T (cell n (a at d)) c top-below ∙ g .later;
+          size = stored-length T (cell n (a at d)) c ∙ g .size;
         }
 
     -- Its caller is next.
     pub goes-on : (under : ℕ) → left ≡ suc under
-        → Closing n v c T₀ (set T (cell n (a at d)) c) W (getD W under 0 / 16384) (getD W under 0 / 2 % 8192) under
+        → Closing n v c T₀ (stored T (cell n (a at d)) c) W (getD W under 0 / 16384) (getD W under 0 / 2 % 8192) under
     goes-on under down = next (next-of (subst (λ (k : ℕ). Trail W (g .root) k ((a at d) ∷ g .rest)) down (g .trail)))
       where
-        next : Next W (g .root) (a at d) under (g .rest) → Closing n v c T₀ (set T (cell n (a at d)) c) W (getD W under 0 / 16384) (getD W under 0 / 2 % 8192) under
+        next : Next W (g .root) (a at d) under (g .rest) → Closing n v c T₀ (stored T (cell n (a at d)) c) W (getD W under 0 / 16384) (getD W under 0 / 2 % 8192) under
         next k = named (k .caller) refl
           where
-            named : (y : Pair) → k .caller ≡ y → Closing n v c T₀ (set T (cell n (a at d)) c) W (getD W under 0 / 16384) (getD W under 0 / 2 % 8192) under
+            named : (y : Pair) → k .caller ≡ y → Closing n v c T₀ (stored T (cell n (a at d)) c) W (getD W under 0 / 16384) (getD W under 0 / 2 % 8192) under
             named (C at D) y =
                 let m : (z : Pair) → List·Memᴰ z ((C at D) ∷ k .rest) → List·Memᴰ z (g .rest) =
                 λ z i. subst (List·Memᴰ z) (sym (k .rest-is ∙ ap (λ (u : Pair). u ∷ k .rest) y)) i in
@@ -152,7 +152,7 @@ module _ {n v B q c depth : ℕ} {T₀ W : List ℕ} (r : CloseReady n v B q dep
                   deep = let l = g .deep in omega arith;
                   within-all = λ z i. g .within-all z (List·Memᴰ.List·Memᴰ·tail (m z i));
                   open-all = λ z i.
-                      getD-set-other T (cell n (a at d)) (cell n z) c 0
+                      stored-elsewhere T (cell n (a at d)) (cell n z) c
                       (λ e. k .fresh (subst (λ (u : Pair). List·Memᴰ u (g .rest))
                       (cell-one v n z (a at d) (g .within-all z (List·Memᴰ.List·Memᴰ·tail (m z i))) top-within e) (m z i)))
                       ∙ g .open-all z (List·Memᴰ.List·Memᴰ·tail (m z i));
@@ -161,6 +161,6 @@ module _ {n v B q c depth : ℕ} {T₀ W : List ℕ} (r : CloseReady n v B q dep
                     | inl j ↦ inl j
                     | inr j ↦ inr (subst (List·Memᴰ (pairOf n i)) (k .rest-is ∙ ap (λ (u : Pair). u ∷ k .rest) y) j)
                   ];
-                  later = drop-set-lt (cells v n) T (cell n (a at d)) c top-below ∙ g .later;
-                  size = length-set T (cell n (a at d)) c ∙ g .size;
+                  later = stored-later (cells v n) T (cell n (a at d)) c top-below ∙ g .later;
+                  size = stored-length T (cell n (a at d)) c ∙ g .size;
                 })

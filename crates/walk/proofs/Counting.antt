@@ -1,33 +1,30 @@
 -- Each step of the walk gives the called pair's cell its first number where it is blank, and no other cell. Assumes nothing.
-use mathlib.Core.Path.{_≡_, refl, sym, ap, _∙_, subst}
+use mathlib.Core.Path.{_≡_, refl, ap, _∙_}
 use mathlib.Core.List.{List, _∷_}
 use mathlib.Core.Logic.{inl, inr, _≢_}
 use Prim.Native.Nat.{ℕ, _+_, _≤_, _<_}
 use native.Mathlib.Omega.{arith}
-use lib.ListN.{length, getD, set, take}
+use lib.ListN.{length, take}
 use Rattle.calls.proofs.Table.{opened}
 use Rattle.grammar.specs.Rule.{Rule}
+use Rattle.schema.specs.Cells.{heldAt, stored}
 use Rattle.schema.specs.Closed.{Closed}
-use Rattle.schema.specs.Derivation.{Pair, _at_, Result, success, failure}
+use Rattle.schema.specs.Derivation.{Pair, _at_, Result}
 use Rattle.schema.specs.Table.{cell, cells, decided, held}
-use Rattle.schema.proofs.Cell.{PairWithin, cell-below}
+use Rattle.schema.proofs.Cell.{cell-below}
 use Rattle.walk.specs.Walk.{openMark, Settled, fresh, Counts, before, WalkReady}
 use Rattle.walk.specs.Step.{LookedUp, settled-before, leaf-settled, topOf, calledOf, Settles, Opens, StepEnds, Steps}
 use Rattle.walk.specs.declared.State.{State}
 use Rattle.walk.specs.declared.Step.the-variants as step
 use Rattle.walk.specs.declared.Walk.{Walk}
 use Rattle.walk.specs.declared.Walk.the-variants as walk
-use Rattle.walk.proofs.Decided.{fresh-not, decided-set, decided-most}
+use Rattle.walk.proofs.Decided.{fresh-not, decided-stored, decided-most}
 use Rattle.walk.proofs.Numbers.{cells-small}
-use Rattle.walk.proofs.Marks.{stands}
+use Rattle.walk.proofs.Marks.{stands, settled-full}
 use Rattle.walk.proofs.Standing.{Standing}
 use Rattle.walk.proofs.Stepping.{known}
 use Rattle.walk.proofs.Still.{room-before}
 use Rattle.walk.proofs.Through.{Through, called-within}
-
-pub settled-full : {n c : ℕ} (r : Result) → Settled n c r → c ≢ 0
-settled-full (success q) m z = let e = m .code-is in omega arith
-settled-full failure m z = let e = m .code-is in omega arith
 
 module _ (rule : ℕ → Rule) (s : List ℕ) (v : ℕ) (closed : Closed v rule) (few : v ≤ 256) (short : length s ≤ 4096) {x : Pair} {O U T W : List ℕ} {y : State}
     (g : Standing rule s v x O U T W y) (room : cells v (length s) ≤ length O) where
@@ -46,17 +43,17 @@ module _ (rule : ℕ → Rule) (s : List ℕ) (v : ℕ) (closed : Closed v rule)
   -- Looking up,
   looked-counts : {r : Result} {T′ : List ℕ} → LookedUp rule s T (calledOf y) r T′ → Counts N T T′ new
   looked-counts {r} (settled-before m) = let e = fresh-not (held (length s) T (calledOf y)) (settled-full r m) in omega arith
-  looked-counts {r} (leaf-settled {c} u e m) = decided-set T N (cell (length s) (calledOf y)) c called-below called-in (settled-full r m)
+  looked-counts {r} (leaf-settled {c} u e m) = decided-stored T N (cell (length s) (calledOf y)) c called-below called-in (settled-full r m)
 
   -- opening,
   opens-counts : {T′ W′ : List ℕ} → Opens s T W T′ W′ y → Counts N T T′ new
-  opens-counts o = ap (λ (M : List ℕ). decided (take N M)) (o .table-is) ∙ decided-set T N (cell (length s) (calledOf y)) openMark called-below called-in (λ z. omega arith)
+  opens-counts o = ap (λ (M : List ℕ). decided (take N M)) (o .table-is) ∙ decided-stored T N (cell (length s) (calledOf y)) openMark called-below called-in (λ z. omega arith)
 
   -- settling the latest open pair,
   top-full : {T₁ : List ℕ} → Through rule s v x O T₁ (cell (length s) (topOf y) ∷ g .stack) → held (length s) T₁ (topOf y) ≢ 0
   top-full {T₁} t z =
       let i = cell (length s) (topOf y) in
-      let e = stands (length s) (getD T₁ i 0) opened (t .fits i (cell-below v (length s) (topOf y) (g .within))) (t .inv .on-open i (inl refl)) in
+      let e = stands (length s) (heldAt T₁ i) opened (t .fits i (cell-below v (length s) (topOf y) (g .within))) (t .inv .on-open i (inl refl)) in
       omega arith
 
   settles-counts : {T′ W′ : List ℕ} {c : ℕ} → Settles rule s T W T′ W′ y c → Counts N T T′ new
@@ -66,8 +63,8 @@ module _ (rule : ℕ → Rule) (s : List ℕ) (v : ℕ) (closed : Closed v rule)
       let l = cell-below v (length s) (topOf y) (g .within) in
       let z = t .size in
       let a = looked-counts (h .looked-up) in
-      let b = decided-set (h .T₁) N i c l (omega arith) (settled-full (h .r) (h .code-is)) in
-      let f = fresh-not (getD (h .T₁) i 0) (top-full t) in
+      let b = decided-stored (h .T₁) N i c l (omega arith) (settled-full (h .r) (h .code-is)) in
+      let f = fresh-not (heldAt (h .T₁) i) (top-full t) in
       let e = ap (λ (M : List ℕ). decided (take N M)) (h .table-is) in
       omega arith
 
@@ -117,11 +114,11 @@ module _ {rule : ℕ → Rule} {s : List ℕ} {v A p : ℕ} {T₀ W₀ : List �
         omega arith
 
   -- A leaf that is asked is open, and so is not new.
-  pub asked-counts : (c : ℕ) → c ≢ 0 → Counts (cells v (length s)) T₀ (set T₀ (cell (length s) (A at p)) c) 0
+  pub asked-counts : (c : ℕ) → c ≢ 0 → Counts (cells v (length s)) T₀ (stored T₀ (cell (length s) (A at p)) c) 0
   asked-counts c d =
       let l = cell-below v (length s) (A at p) (r .within) in
       let m = r .walkable .room in
       let o = r .opened in
-      let a = decided-set T₀ (cells v (length s)) (cell (length s) (A at p)) c l (omega arith) d in
+      let a = decided-stored T₀ (cells v (length s)) (cell (length s) (A at p)) c l (omega arith) d in
       let b = fresh-not (held (length s) T₀ (A at p)) (λ z. omega arith) in
       omega arith

@@ -8,16 +8,17 @@ use native.Mathlib.Decide.{ℕ-discrete}
 use native.Mathlib.Omega.{arith}
 use native.Mathlib.Numerals.{add-one}
 use lib.Dec.{eqb}
-use lib.ListN.{length, take, getD, set}
+use lib.ListN.{length, take}
 use borrow.Author.Tests.{eq-eqb, ne-eqb}
+use Rattle.schema.specs.Cells.{heldAt, stored}
 use Rattle.schema.specs.Table.{decided}
 use Rattle.walk.specs.Walk.{fresh}
 
-one-more : (xs : List ℕ) (i : ℕ) → i < length xs → decided (take (suc i) xs) ≡ cond (eqb (getD xs i 0) 0) (decided (take i xs)) (suc (decided (take i xs)))
+one-more : (xs : List ℕ) (i : ℕ) → i < length xs → decided (take (suc i) xs) ≡ cond (eqb (heldAt xs i) 0) (decided (take i xs)) (suc (decided (take i xs)))
 unfolding decided
 one-more [] i h = absurd (omega arith)
 one-more (x ∷ xs) zero h = refl
-one-more (x ∷ xs) (suc i) h = go (eqb x 0) (eqb (getD xs i 0) 0) (decided (take i xs)) (decided (take (suc i) xs)) (one-more xs i (omega arith))
+one-more (x ∷ xs) (suc i) h = go (eqb x 0) (eqb (heldAt xs i) 0) (decided (take i xs)) (decided (take (suc i) xs)) (one-more xs i (omega arith))
   where
     go : (t u : Bool) (d e : ℕ) → e ≡ cond u d (suc d) → cond t e (suc e) ≡ cond u (cond t d (suc d)) (suc (cond t d (suc d)))
     go true u d e q = q
@@ -29,11 +30,11 @@ pub decided-none : (xs : List ℕ) → decided (take 0 xs) ≡ 0
 unfolding decided
 decided-none xs = refl
 
-pub decided-blank : (xs : List ℕ) (i : ℕ) → i < length xs → getD xs i 0 ≡ 0 → decided (take (i + 1) xs) ≡ decided (take i xs)
-decided-blank xs i h e = rw (add-one, one-more xs i h, eq-eqb (getD xs i 0) 0 e)
+pub decided-blank : (xs : List ℕ) (i : ℕ) → i < length xs → heldAt xs i ≡ 0 → decided (take (i + 1) xs) ≡ decided (take i xs)
+decided-blank xs i h e = rw (add-one, one-more xs i h, eq-eqb (heldAt xs i) 0 e)
 
-pub decided-more : (xs : List ℕ) (i : ℕ) → i < length xs → (getD xs i 0 ≡ 0 → ⊥) → decided (take (i + 1) xs) ≡ decided (take i xs) + 1
-decided-more xs i h e = rw (add-one, one-more xs i h, ne-eqb (getD xs i 0) 0 e, add-one)
+pub decided-more : (xs : List ℕ) (i : ℕ) → i < length xs → (heldAt xs i ≡ 0 → ⊥) → decided (take (i + 1) xs) ≡ decided (take i xs) + 1
+decided-more xs i h e = rw (add-one, one-more xs i h, ne-eqb (heldAt xs i) 0 e, add-one)
 
 -- A cell is new where it is blank.
 pub fresh-blank : (c : ℕ) → c ≡ 0 → fresh c ≡ 1
@@ -50,16 +51,16 @@ fresh-small c = go (eqb c 0)
     go false = omega arith
 
 -- A store that is not of a blank decides its cell, if that was new.
-pub decided-set : (xs : List ℕ) (m i c : ℕ) → i < m → i < length xs → c ≢ 0 → decided (take m (set xs i c)) ≡ decided (take m xs) + fresh (getD xs i 0)
+pub decided-stored : (xs : List ℕ) (m i c : ℕ) → i < m → i < length xs → c ≢ 0 → decided (take m (stored xs i c)) ≡ decided (take m xs) + fresh (heldAt xs i)
 unfolding decided
-decided-set [] m i c h l d = absurd (omega arith)
-decided-set (x ∷ xs) zero i c h l d = absurd (omega arith)
-decided-set (x ∷ xs) (suc m) zero c h l d = rw (ne-eqb c 0 d) (go (eqb x 0) (decided (take m xs)))
+decided-stored [] m i c h l d = absurd (omega arith)
+decided-stored (x ∷ xs) zero i c h l d = absurd (omega arith)
+decided-stored (x ∷ xs) (suc m) zero c h l d = rw (ne-eqb c 0 d) (go (eqb x 0) (decided (take m xs)))
   where
     go : (u : Bool) (e : ℕ) → suc e ≡ cond u e (suc e) + cond u 1 0
     go true e = omega arith
     go false e = omega arith
-decided-set (x ∷ xs) (suc m) (suc i) c h l d = go (eqb x 0) (decided (take m xs)) (decided (take m (set xs i c))) (fresh (getD xs i 0)) (decided-set xs m i c (omega arith) (omega arith) d)
+decided-stored (x ∷ xs) (suc m) (suc i) c h l d = go (eqb x 0) (decided (take m xs)) (decided (take m (stored xs i c))) (fresh (heldAt xs i)) (decided-stored xs m i c (omega arith) (omega arith) d)
   where
     go : (t : Bool) (e f g : ℕ) → f ≡ e + g → cond t f (suc f) ≡ cond t e (suc e) + g
     go true e f g q = q
@@ -77,12 +78,12 @@ decided-most (x ∷ xs) (suc m) = go (eqb x 0) (decided (take m xs)) (decided-mo
     go false e q = omega arith
 
 -- Where the same cells are blank, as many are decided.
-pub decided-same : (T U : List ℕ) (m : ℕ) → m ≤ length T → m ≤ length U → ((i : ℕ) → i < m → getD T i 0 ≡ 0 → getD U i 0 ≡ 0) → ((i : ℕ) → i < m → getD T i 0 ≢ 0 → getD U i 0 ≢ 0)
+pub decided-same : (T U : List ℕ) (m : ℕ) → m ≤ length T → m ≤ length U → ((i : ℕ) → i < m → heldAt T i ≡ 0 → heldAt U i ≡ 0) → ((i : ℕ) → i < m → heldAt T i ≢ 0 → heldAt U i ≢ 0)
     → decided (take m U) ≡ decided (take m T)
 decided-same T U zero l k b f = let a = decided-none T in let c = decided-none U in omega arith
 decided-same T U (suc m) l k b f =
     let i = decided-same T U m (omega arith) (omega arith) (λ j n. b j (omega arith)) (λ j n. f j (omega arith)) in
-    elim (ℕ-discrete (getD T m 0) 0) [
+    elim (ℕ-discrete (heldAt T m) 0) [
       | yes e ↦
           let a = decided-blank T m (omega arith) e in
           let c = decided-blank U m (omega arith) (b m (omega arith) e) in
@@ -94,7 +95,7 @@ decided-same T U (suc m) l k b f =
     ]
 
 -- Where all are blank, none is decided.
-pub decided-zero : (T : List ℕ) (m : ℕ) → m ≤ length T → ((i : ℕ) → i < m → getD T i 0 ≡ 0) → decided (take m T) ≡ 0
+pub decided-zero : (T : List ℕ) (m : ℕ) → m ≤ length T → ((i : ℕ) → i < m → heldAt T i ≡ 0) → decided (take m T) ≡ 0
 decided-zero T zero l b = decided-none T
 decided-zero T (suc m) l b =
     let i = decided-zero T m (omega arith) (λ j n. b j (omega arith)) in

@@ -6,16 +6,18 @@ use mathlib.Core.Logic.{_⊎_, inl, inr, _≢_}
 use Prim.Native.Nat.{ℕ, _-_, _≤_, _<_}
 use native.Mathlib.Omega.{arith}
 use borrow.Author.Tests.{eq-eqb, ne-eqb}
-use lib.ListN.{length, getD, set}
+use lib.ListN.{length}
 use Rattle.calls.proofs.Ends.{End, end-value, end-loop, end-halt}
 use Rattle.calls.proofs.Follow.{mem-in, in-mem}
 use Rattle.calls.proofs.Holding.{reach-from, end-from}
 use Rattle.calls.proofs.Invariant.{Kept}
-use Rattle.calls.proofs.Links.{view, at-root}
+use Rattle.calls.proofs.Trail.{at-root}
 use Rattle.calls.proofs.Reach.{Reach}
 use Rattle.calls.proofs.System.{Answer, value, halts, loops}
 use Rattle.calls.proofs.Table.{Mark, blank, opened, settled}
 use Rattle.grammar.specs.Rule.{Rule}
+use Rattle.schema.specs.Cells.{heldAt, stored}
+use Rattle.schema.proofs.Cells.{view}
 use Rattle.schema.specs.Closed.{Closed}
 use Rattle.schema.specs.Derivation.{Pair, _at_, Result, success, failure, Stop, stops, act, result, stopped, loop}
 use Rattle.schema.specs.Reached.{Reached}
@@ -86,7 +88,7 @@ module _ (rule : ℕ → Rule) (s : List ℕ) (v : ℕ) (closed : Closed v rule)
         let e : o .0 ≡ cell (length s) (A at p) = sym (cell-pair (length s) (o .0)) ∙ ap (cell (length s)) (o .2) in
         let b = rest .inv .below (o .0) i in (
           subst (PairWithin v (length s)) (o .2) (pair-within v (length s) (o .0) b),
-          subst (λ (u : ℕ). getD T u 0 ≡ openMark) e (stands (length s) (getD T (o .0) 0) opened (rest .fits (o .0) b) (rest .inv .on-open (o .0) i)),
+          subst (λ (u : ℕ). heldAt T u ≡ openMark) e (stands (length s) (heldAt T (o .0)) opened (rest .fits (o .0) b) (rest .inv .on-open (o .0) i)),
         )
 
     -- The table at the end.
@@ -146,13 +148,13 @@ module _ (rule : ℕ → Rule) (s : List ℕ) (v : ℕ) (closed : Closed v rule)
 
   -- The asked pair has its result.
   pub settle-ends : (room : cells v (length s) ≤ length O) (c : ℕ) (r : Result) → Settled (length s) c r → Given rule s T (a at p) r
-      → cell (length s) (a at p) ≡ cell (length s) x → TableEnds rule s v x O (set T (cell (length s) (a at p)) c) (result (resultOf c)) (0 at 0) []
+      → cell (length s) (a at p) ≡ cell (length s) x → TableEnds rule s v x O (stored T (cell (length s) (a at p)) c) (result (resultOf c)) (0 at 0) []
   settle-ends room c r m h e =
       let top = cell (length s) (a at p) in
       let z = at-root (heldCells rule s (view mark O)) e (g .inv .trail) in
-      let t = subst (Through rule s v x O (set T top c)) z (settle-through rule s v closed few short within g room c r m h) in
+      let t = subst (Through rule s v x O (stored T top c)) z (settle-through rule s v closed few short within g room c r m h) in
       let f = settle-there rule s v closed few short within g room c r m h in
-      subst (λ (u : Result). TableEnds rule s v x O (set T top c) (result u) (0 at 0) []) (sym (result-is (length s) c r m))
-      (table-ends rule s v closed short x w O (set T top c) [] t (value r) (cell (length s) x)
+      subst (λ (u : Result). TableEnds rule s v x O (stored T top c) (result u) (0 at 0) []) (sym (result-is (length s) c r m))
+      (table-ends rule s v closed short x w O (stored T top c) [] t (value r) (cell (length s) x)
       (end-value (heldCells rule s (view mark O)) (cells v (length s)) (start-bounded rule s v closed O (g .fits-before)) root-below (cell (length s) x) (t .inv)
-      (ap (view mark (set T top c)) (sym e) ∙ f)) (0 at 0) refl)
+      (ap (view mark (stored T top c)) (sym e) ∙ f)) (0 at 0) refl)

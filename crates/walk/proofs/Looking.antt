@@ -1,23 +1,20 @@
 -- What the tests of a cell say, and what the second pair's cell says of the pair that calls it. Assumes nothing.
-use mathlib.Core.Bool.{Bool, true}
-use mathlib.Core.Path.{_≡_, sym, ap, _∙_, subst}
+use mathlib.Core.Path.{_≡_, sym, ap, _∙_}
 use mathlib.Core.Logic.{inl, inr, _≢_}
 use mathlib.Core.List.{List}
-use Prim.Native.Nat.{ℕ, _-_, _≤_, _<_}
+use Prim.Native.Nat.{ℕ, _-_, _≤_}
 use native.Mathlib.Omega.{arith}
-use lib.ListN.{length, getD}
+use lib.ListN.{length}
 use Rattle.grammar.specs.Rule.{Rule}
-use Rattle.schema.specs.Derivation.{Pair, _at_, Result, success, failure, gives, calls, act, second, leaf}
-use Rattle.schema.specs.Closed.{Variable}
-use Rattle.schema.specs.Table.{Within, cell, held}
-use Rattle.schema.proofs.Cell.{cell-below}
-use Rattle.schema.proofs.Closed.{calls-call}
+use Rattle.schema.specs.Cells.{heldAt}
+use Rattle.schema.specs.Derivation.{Pair, _at_, success, failure, gives, act, leaf}
+use Rattle.schema.specs.Table.{cell, held}
 use Rattle.schema.proofs.Ends.{derives-ends}
-use Rattle.walk.specs.Walk.{openMark, Unsettled, Settled, Fits, Called, second-called, by-calls, Walkable}
+use Rattle.walk.specs.Walk.{openMark, Settled, Fits}
 
 -- The cell that was loaded.
-pub held-is : (n : ℕ) (T : List ℕ) (y : Pair) (c i : ℕ) → c ≡ getD T i 0 → i ≡ cell n y → held n T y ≡ c
-held-is n T y c i e f = ap (λ (j : ℕ). getD T j 0) (sym f) ∙ sym e
+pub held-is : (n : ℕ) (T : List ℕ) (y : Pair) (c i : ℕ) → c ≡ heldAt T i → i ≡ cell n y → held n T y ≡ c
+held-is n T y c i e f = ap (λ (j : ℕ). heldAt T j) (sym f) ∙ sym e
 
 -- What its code says.
 pub failure-settled : (n c : ℕ) → c ≡ 1 → Settled n c failure

@@ -1,7 +1,7 @@
 -- The mark of the walk that a cell's number stands for. Assumes nothing.
 use mathlib.Core.Path.{_≡_, refl, ap, subst}
 use mathlib.Core.Bool.{Bool, true, false, cond}
-use mathlib.Core.Logic.{inl, inr}
+use mathlib.Core.Logic.{inl, inr, _≢_}
 use Prim.Native.Nat.{ℕ, _-_, _≤_}
 use native.Mathlib.Omega.{arith}
 use lib.Dec.{eqb, ltb}
@@ -66,3 +66,12 @@ settled-not n c failure h u = u .no-failure (h .code-is)
 pub code-of : (n c : ℕ) (r : Result) → Settled n c r → Code c
 code-of n c failure m = inl (m .code-is)
 code-of n c (success q) m = let e = m .code-is in inr (omega arith)
+
+-- It is no blank, and not open.
+pub settled-full : {n c : ℕ} (r : Result) → Settled n c r → c ≢ 0
+settled-full (success q) m z = let e = m .code-is in omega arith
+settled-full failure m z = let e = m .code-is in omega arith
+
+pub settled-closed : {n c : ℕ} (t : Result) → n ≤ 4096 → Settled n c t → c ≢ openMark
+settled-closed (success q) l m z = let e = m .code-is in let f = m .ends in omega arith
+settled-closed failure l m z = let e = m .code-is in omega arith

@@ -2,15 +2,11 @@
 use Prim.Native.Nat.{ℕ, _+_, _-_, _*_, _≤_}
 use native.Mathlib.Omega.{arith}
 use native.Mathlib.Nat.{mul-le-mul}
-use Rattle.schema.specs.Derivation.{_at_}
-use Rattle.schema.specs.Table.{cell, cells}
+use Rattle.schema.specs.Table.{cells}
 
 -- A row of cells for each of 256 variables, on 4,096 bytes.
 pub row-bound : (a m : ℕ) → a ≤ 255 → m ≤ 4097 → a * m ≤ 1044735
 row-bound a m h k = mul-le-mul h k
-
-pub cell-small : (n A p : ℕ) → A ≤ 256 → n ≤ 4096 → p ≤ n → cell n (A at p) ≤ 1048831
-cell-small n A p h k l = omega (arith, row-bound (A - 1) (n + 1) (omega arith) (omega arith))
 
 pub cells-small : (v n : ℕ) → v ≤ 256 → n ≤ 4096 → cells v n ≤ 1048832
 cells-small v n h k = let m : n + 1 ≤ 4097 = omega arith in mul-le-mul h m

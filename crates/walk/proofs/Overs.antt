@@ -1,47 +1,33 @@
 -- Asking over the table as it is: the walk, the closing, the count of what is new. Assumes nothing.
 use mathlib.Core.List.{List, []}
-use mathlib.Core.Logic.{_⊎_, inl, inr, _≢_}
+use mathlib.Core.Logic.{inl, inr, _≢_}
 use mathlib.Core.Path.{_≡_, refl, sym, ap, _∙_, subst}
 use Prim.Native.Nat.{ℕ, _+_, _-_, _≤_, _<_}
 use native.Mathlib.Decide.{ℕ-discrete}
 use native.Mathlib.Omega.{arith}
-use lib.ListN.{length, getD, set, take, drop, length-set}
-use lib.Seq.{getD-set-same, getD-set-other, drop-set-lt}
+use lib.ListN.{length, take, drop}
 use Rattle.grammar.specs.Refusal.{Checked, accepted}
 use Rattle.grammar.specs.Rule.{Rule}
-use Rattle.schema.specs.Derivation.{Pair, _at_, Result, success, failure, missing, end, calls, act, second, Derives, Outcome, result, stopped, loop, Has}
+use Rattle.schema.specs.Cells.{heldAt, stored}
+use Rattle.schema.proofs.Cells.{stored-there, stored-elsewhere, stored-later, stored-length}
+use Rattle.schema.specs.Derivation.{Pair, _at_, Result, end, second, result, Has}
 use Rattle.schema.specs.Reached.{Reached, itself, first-of, second-of}
-use Rattle.schema.specs.Table.{Within, cell, cells, code, decided, held, Holds, Table}
+use Rattle.schema.specs.Table.{Within, cell, cells, decided, held, Holds, Table}
 use Rattle.schema.proofs.Answer.{reached-cell}
 use Rattle.schema.proofs.Cell.{PairWithin, cell-below}
+use Rattle.schema.proofs.Codes.{code-full}
 use Rattle.schema.proofs.Laws.{has-one}
-use Rattle.walk.specs.Reply.{Reply, reply, told, Code}
+use Rattle.walk.specs.Reply.{Reply, reply, told}
 use Rattle.walk.specs.Finish.{FinishReady, Finishes}
-use Rattle.walk.specs.Over.{OverReady, OverAnswers, Over}
-use Rattle.walk.specs.Walk.{openMark, Unsettled, Settled, Fits, fresh, Counts, before, RightTable, WalkReady, WalkEnds, HeldAt, TableMeans, TableEnds, Closes, outcomeOf, namedOf}
+use Rattle.walk.specs.Over.{OverReady, Over}
+use Rattle.walk.specs.Walk.{openMark, Unsettled, Settled, Fits, fresh, Counts, before, RightTable, WalkReady, WalkEnds, HeldAt, TableMeans, outcomeOf, namedOf}
 use Rattle.walk.specs.declared.Answer.{Answer}
 use Rattle.walk.specs.declared.Walk.{Walk}
 use Rattle.walk.specs.declared.Walk.the-variants as walk
-use Rattle.walk.proofs.Decided.{decided-set, decided-most}
+use Rattle.walk.proofs.Decided.{decided-stored, decided-most}
 use Rattle.walk.proofs.Finished.{close-ready, no-open, closes-counts}
-use Rattle.walk.proofs.Marks.{settled-not, code-of}
+use Rattle.walk.proofs.Marks.{settled-not, settled-full, settled-closed, code-of}
 use Rattle.walk.proofs.Numbers.{cells-small}
-
--- The code of an outcome is no blank.
-outcome-full : (o : Outcome) → code o ≢ 0
-outcome-full (result (success q)) e = omega arith
-outcome-full (result failure) e = omega arith
-outcome-full (stopped missing) e = omega arith
-outcome-full (stopped end) e = omega arith
-outcome-full loop e = omega arith
-
-settled-closed : {n c : ℕ} (t : Result) → n ≤ 4096 → Settled n c t → c ≢ openMark
-settled-closed (success q) l m z = let e = m .code-is in let f = m .ends in omega arith
-settled-closed failure l m z = let e = m .code-is in omega arith
-
-blank-not : {n c : ℕ} (r : Result) → c ≡ 0 → Settled n c r → ⊥
-blank-not (success q) e m = let f = m .code-is in omega arith
-blank-not failure e m = let f = m .code-is in omega arith
 
 -- The asked cell is in the table.
 pub over-in : {rule : ℕ → Rule} {s : List ℕ} {v A p : ℕ} {T W : List ℕ} → OverReady rule s v A p T W → cell (length s) (A at p) < length T
@@ -49,9 +35,9 @@ over-in {s = s} {v = v} {A = A} {p = p} r = let l = cell-below v (length s) (A a
 
 -- Opening it decides it, where it is new.
 opened-counts : {rule : ℕ → Rule} {s : List ℕ} {v A p : ℕ} {T W : List ℕ} → OverReady rule s v A p T W
-    → Counts (cells v (length s)) T (set T (cell (length s) (A at p)) openMark) (fresh (held (length s) T (A at p)))
+    → Counts (cells v (length s)) T (stored T (cell (length s) (A at p)) openMark) (fresh (held (length s) T (A at p)))
 opened-counts {s = s} {v = v} {A = A} {p = p} {T = T} r =
-    decided-set T (cells v (length s)) (cell (length s) (A at p)) openMark (cell-below v (length s) (A at p) (r .within)) (over-in r) (λ z. omega arith)
+    decided-stored T (cells v (length s)) (cell (length s) (A at p)) openMark (cell-below v (length s) (A at p) (r .within)) (over-in r) (λ z. omega arith)
 
 -- ---- The asked pair holds no result: it is opened and walked.
 
@@ -72,47 +58,47 @@ module _ {rule : ℕ → Rule} {s : List ℕ} {v A p : ℕ} {T W : List ℕ} (r 
   x-in = over-in r
 
   abbrev opened-table : List ℕ
-  opened-table = set T x openMark
+  opened-table = stored T x openMark
 
   abbrev O : List ℕ
   O = before (length s) (A at p) opened-table
 
   -- The table before the asked pair was opened: its cell is blank, the others are as they were.
-  start-asked : getD O x 0 ≡ 0
-  start-asked = getD-set-same opened-table x 0 0 (let e = length-set T x openMark in let l = x-in in omega arith)
+  start-asked : heldAt O x ≡ 0
+  start-asked = stored-there opened-table x 0 (let e = stored-length T x openMark in let l = x-in in omega arith)
 
-  start-other : (i : ℕ) → i ≢ x → getD O i 0 ≡ getD T i 0
-  start-other i d = getD-set-other opened-table x i 0 0 d ∙ getD-set-other T x i openMark 0 d
+  start-other : (i : ℕ) → i ≢ x → heldAt O i ≡ heldAt T i
+  start-other i d = stored-elsewhere opened-table x i 0 d ∙ stored-elsewhere T x i openMark d
 
   start-later : drop N O ≡ drop N T
-  start-later = drop-set-lt N opened-table x 0 x-below ∙ drop-set-lt N T x openMark x-below
+  start-later = stored-later N opened-table x 0 x-below ∙ stored-later N T x openMark x-below
 
   start-size : length O ≡ length T
-  start-size = length-set opened-table x 0 ∙ length-set T x openMark
+  start-size = stored-length opened-table x 0 ∙ stored-length T x openMark
 
   start-room : N ≤ length O
   start-room = let e = start-size in let m = r .room in omega arith
 
-  opened-fits : (i : ℕ) → i < N → Fits (length s) (getD opened-table i 0)
+  opened-fits : (i : ℕ) → i < N → Fits (length s) (heldAt opened-table i)
   opened-fits i l = elim (ℕ-discrete i x) [
-    | yes e ↦ inr (ap (λ (j : ℕ). getD opened-table j 0) e ∙ getD-set-same T x openMark 0 x-in)
-    | no d ↦ inl (subst (λ (c : ℕ). c ≤ 5 + length s) (sym (getD-set-other T x i openMark 0 d)) (r .in-range i l))
+    | yes e ↦ inr (ap (λ (j : ℕ). heldAt opened-table j) e ∙ stored-there T x openMark x-in)
+    | no d ↦ inl (subst (λ (c : ℕ). c ≤ 5 + length s) (sym (stored-elsewhere T x i openMark d)) (r .in-range i l))
   ]
 
-  start-open : (i : ℕ) → i < N → getD O i 0 ≢ openMark
+  start-open : (i : ℕ) → i < N → heldAt O i ≢ openMark
   start-open i l = elim (ℕ-discrete i x) [
-    | yes e ↦ λ z. let f : getD O i 0 ≡ 0 = ap (λ (j : ℕ). getD O j 0) e ∙ start-asked in omega arith
+    | yes e ↦ λ z. let f : heldAt O i ≡ 0 = ap (λ (j : ℕ). heldAt O j) e ∙ start-asked in omega arith
     | no d ↦ λ z. let f = start-other i d in let g = r .in-range i l in let h = r .short in omega arith
   ]
 
   pub over-walk : WalkReady rule s v A p opened-table W
   over-walk =
-      let e = length-set T x openMark in
+      let e = stored-length T x openMark in
       let m = r .room in
       record {
         walkable = record { few = r .few; short = r .short; closed = r .closed; room = omega arith; fits = opened-fits };
         within = r .within;
-        opened = getD-set-same T x openMark 0 x-in;
+        opened = stored-there T x openMark x-in;
         no-open = start-open;
         work-room = r .work-room;
       }
@@ -129,13 +115,13 @@ module _ {rule : ℕ → Rule} {s : List ℕ} {v A p : ℕ} {T W : List ℕ} (r 
     where
       was : (y : Pair) (t : Result) → Settled (length s) (held (length s) O y) t → Settled (length s) (held (length s) T y) t
       was y t m = elim (ℕ-discrete (cell (length s) y) x) [
-        | yes e ↦ absurd (blank-not t (ap (λ (j : ℕ). getD O j 0) e ∙ start-asked) m)
+        | yes e ↦ absurd (settled-full t m (ap (λ (j : ℕ). heldAt O j) e ∙ start-asked))
         | no d ↦ subst (λ (c : ℕ). Settled (length s) c t) (start-other (cell (length s) y) d) m
       ]
 
       still : (y : Pair) (t : Result) → Settled (length s) (held (length s) T y) t → Settled (length s) (held (length s) O y) t
       still y t m = elim (ℕ-discrete (cell (length s) y) x) [
-        | yes e ↦ absurd (settled-not (length s) (held (length s) T (A at p)) t (subst (λ (j : ℕ). Settled (length s) (getD T j 0) t) e m) free)
+        | yes e ↦ absurd (settled-not (length s) (held (length s) T (A at p)) t (subst (λ (j : ℕ). Settled (length s) (heldAt T j) t) e m) free)
         | no d ↦ subst (λ (c : ℕ). Settled (length s) c t) (sym (start-other (cell (length s) y) d)) m
       ]
 
@@ -174,7 +160,7 @@ module _ {rule : ℕ → Rule} {s : List ℕ} {v A p : ℕ} {T W : List ℕ} (r 
 
             changed : held (length s) T₂ (B at q) ≢ held (length s) O (B at q)
             changed e = elim (ℕ-discrete (cell (length s) (B at q)) x) [
-              | yes z ↦ h .table .asked (ap (λ (j : ℕ). getD T₂ j 0) (sym z) ∙ e ∙ ap (λ (j : ℕ). getD O j 0) z ∙ start-asked)
+              | yes z ↦ h .table .asked (ap (λ (j : ℕ). heldAt T₂ j) (sym z) ∙ e ∙ ap (λ (j : ℕ). heldAt O j) z ∙ start-asked)
               | no z ↦
                   let c : held (length s) T₂ (B at q) ≢ openMark = λ o. start-open (cell (length s) (B at q)) (cell-below v (length s) (B at q) w) (sym e ∙ o) in
                   d (f .closes .others (cell (length s) (B at q)) c ∙ e ∙ start-other (cell (length s) (B at q)) z)
@@ -184,7 +170,7 @@ module _ {rule : ℕ → Rule} {s : List ℕ} {v A p : ℕ} {T W : List ℕ} (r 
         leaves-after = record { holds = holds-after; others = others-after; later = f .closes .later ∙ h .table .later ∙ start-later; size = after-size }
 
       -- What is answered.
-      pub over-asked : (w : ℕ) → Counts (cells v (length s)) (set T (cell (length s) (A at p)) openMark) T₂ w → count ≡ fresh (held (length s) T (A at p)) + w
+      pub over-asked : (w : ℕ) → Counts (cells v (length s)) (stored T (cell (length s) (A at p)) openMark) T₂ w → count ≡ fresh (held (length s) T (A at p)) + w
           → Over rule v s (A at p) T T₃ W W₁ (told a)
       over-asked w c e = record {
         replies = reply (outcomeOf end) (namedOf end) count;
@@ -211,7 +197,7 @@ module _ {rule : ℕ → Rule} {s : List ℕ} {v A p : ℕ} {T W : List ℕ} (r 
               let m = start-room in
               let z = h .table .size in
               let i = opened-counts r in
-              let j = closes-counts T₂ T₃ (outcome-full (outcomeOf end)) (omega arith) (f .closes) in
+              let j = closes-counts T₂ T₃ (code-full (outcomeOf end)) (omega arith) (f .closes) in
               omega arith
 
           newly-decided : count ≡ decided (take N T₃) - decided (take N T)
@@ -219,20 +205,20 @@ module _ {rule : ℕ → Rule} {s : List ℕ} {v A p : ℕ} {T W : List ℕ} (r 
 
 -- The same, from the table that the store leaves.
 module _ {rule : ℕ → Rule} {s : List ℕ} {v A p : ℕ} {T W : List ℕ} (r : OverReady rule s v A p T W) (free : Unsettled (held (length s) T (A at p))) {T₁ : List ℕ}
-    (e : T₁ ≡ set T (cell (length s) (A at p)) openMark) where
+    (e : T₁ ≡ stored T (cell (length s) (A at p)) openMark) where
   pub over-may-walk : WalkReady rule s v A p T₁ W
   over-may-walk = rw e (over-walk r free)
 
   module _ {T₂ W₁ : List ℕ} where
     at-start : (last : Walk) → WalkEnds rule s v (A at p) (before (length s) (A at p) T₁) T₂ W W₁ last
-        → WalkEnds rule s v (A at p) (before (length s) (A at p) (set T (cell (length s) (A at p)) openMark)) T₂ W W₁ last
+        → WalkEnds rule s v (A at p) (before (length s) (A at p) (stored T (cell (length s) (A at p)) openMark)) T₂ W W₁ last
     at-start last h = subst (λ (U : List ℕ). WalkEnds rule s v (A at p) (before (length s) (A at p) U) T₂ W W₁ last) e h
 
     pub over-may-finish : (last : Walk) → WalkEnds rule s v (A at p) (before (length s) (A at p) T₁) T₂ W W₁ last → FinishReady (length s) v T₂ W₁ last
     over-may-finish last h = over-finish r free last (at-start last h)
 
   module _ (T₂ : List ℕ) (w m : ℕ) (c : Counts (cells v (length s)) T₁ T₂ w) (q : m ≡ fresh (held (length s) T (A at p))) where
-    counts-start : Counts (cells v (length s)) (set T (cell (length s) (A at p)) openMark) T₂ w
+    counts-start : Counts (cells v (length s)) (stored T (cell (length s) (A at p)) openMark) T₂ w
     counts-start = subst (λ (U : List ℕ). Counts (cells v (length s)) U T₂ w) e c
 
     -- The count fits.

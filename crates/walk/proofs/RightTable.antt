@@ -2,15 +2,16 @@
 use mathlib.Core.Path.{_≡_, sym, _∙_, subst}
 use mathlib.Core.List.{List}
 use Prim.Native.Nat.{ℕ, _≤_, _<_}
-use lib.ListN.{length, getD}
+use lib.ListN.{length}
 use Rattle.calls.proofs.Invariant.{Kept}
-use Rattle.calls.proofs.Links.{view}
 use Rattle.calls.proofs.System as theory
 use Rattle.calls.proofs.System.{value}
 use Rattle.calls.proofs.Table.{settled, opened}
 use Rattle.calls.proofs.Trail.{Both}
 use Rattle.calls.proofs.Trail as trail
 use Rattle.grammar.specs.Rule.{Rule}
+use Rattle.schema.specs.Cells.{heldAt}
+use Rattle.schema.proofs.Cells.{view}
 use Rattle.schema.specs.Closed.{Closed}
 use Rattle.schema.specs.Derivation.{Pair, _at_, Result, act, second}
 use Rattle.schema.specs.Table.{cell, cells, held}
@@ -22,7 +23,7 @@ use Rattle.walk.proofs.Marks.{mark, stands}
 use Rattle.walk.proofs.Bridge.{cell-kind, cell-first, cell-second, settled-at}
 
 module _ (rule : ℕ → Rule) (s : List ℕ) (v : ℕ) (closed : Closed v rule) (short : length s ≤ 4096) (O : List ℕ)
-    (fits : (i : ℕ) → i < cells v (length s) → Fits (length s) (getD O i 0)) (right : RightTable rule s v O) where
+    (fits : (i : ℕ) → i < cells v (length s) → Fits (length s) (heldAt O i)) (right : RightTable rule s v O) where
   both : (x : Pair) (r : Result) → PairWithin v (length s) x → Settled (length s) (held (length s) O x) r
       → gtsCells rule s .kind (cell (length s) x) ≡ theory.Kind.calls → Both (gtsCells rule s) (view mark O) (cell (length s) x)
   both (A at p) r w m q =
@@ -44,8 +45,8 @@ module _ (rule : ℕ → Rule) (s : List ℕ) (v : ℕ) (closed : Closed v rule)
   right-marks = record {
     sound = λ i r l e.
         let c = cell-pair (length s) i in
-        let m = stands (length s) (getD O i 0) (settled r) (fits i l) e in
+        let m = stands (length s) (heldAt O i) (settled r) (fits i l) e in
         subst (λ (j : ℕ). trail.Fits (gtsCells rule s) (view mark O) j r) c
-        (fits-pair (pairOf (length s) i) r (pair-within v (length s) i l) (subst (λ (j : ℕ). Settled (length s) (getD O j 0) r) (sym c) m));
-    no-open = λ i l e. right .no-open i l (stands (length s) (getD O i 0) opened (fits i l) e);
+        (fits-pair (pairOf (length s) i) r (pair-within v (length s) i l) (subst (λ (j : ℕ). Settled (length s) (heldAt O j) r) (sym c) m));
+    no-open = λ i l e. right .no-open i l (stands (length s) (heldAt O i) opened (fits i l) e);
   }

@@ -8,11 +8,12 @@ use lib.ListN.{length, getD, set, drop}
 use lib.Seq.{getD-set-other}
 use Rattle.calls.proofs.Depth.{trail-length}
 use Rattle.calls.proofs.Follow.{In, mem-in}
-use Rattle.calls.proofs.Links.{view}
 use Rattle.calls.proofs.System.{System}
 use Rattle.calls.proofs.Trail as theory
 use Rattle.calls.proofs.Table.{Mark}
 use Rattle.grammar.specs.Rule.{Rule}
+use Rattle.schema.specs.Cells.{heldAt, stored}
+use Rattle.schema.proofs.Cells.{stored-elsewhere, view}
 use Rattle.schema.specs.Derivation.{Pair, _at_, Result, Stop}
 use Rattle.schema.specs.Table.{Within, cell, cells}
 use Rattle.schema.proofs.Held.{heldCells}
@@ -41,16 +42,16 @@ pub record Standing (rule : ℕ → Rule) (s : List ℕ) (v : ℕ) (x : Pair) (O
 
 module _ {rule : ℕ → Rule} {s : List ℕ} where
   -- A cell that holds no result may be stored to: what was called is called still.
-  pub called-still : {T : List ℕ} {k : Bool} {x y : Pair} (i c : ℕ) → ((t : Result) → ¬ Settled (length s) (getD T i 0) t) → Called rule s T k x y
-      → Called rule s (set T i c) k x y
+  pub called-still : {T : List ℕ} {k : Bool} {x y : Pair} (i c : ℕ) → ((t : Result) → ¬ Settled (length s) (heldAt T i) t) → Called rule s T k x y
+      → Called rule s (stored T i c) k x y
   called-still i c n (first-called e) = first-called e
   called-still {T} i c n (second-called {B = B} {p = p} {t = t} e m) =
       second-called e
       (subst (λ (u : ℕ). Settled (length s) u t)
-      (sym (getD-set-other T i (cell (length s) (B at p)) c 0 (λ z. n t (subst (λ (j : ℕ). Settled (length s) (getD T j 0) t) z m)))) m)
+      (sym (stored-elsewhere T i (cell (length s) (B at p)) c (λ z. n t (subst (λ (j : ℕ). Settled (length s) (heldAt T j) t) z m)))) m)
 
-  pub stacked-still : {T W : List ℕ} {d : ℕ} {l : List ℕ} (i c : ℕ) → ((t : Result) → ¬ Settled (length s) (getD T i 0) t) → Stacked rule s T W d l
-      → Stacked rule s (set T i c) W d l
+  pub stacked-still : {T W : List ℕ} {d : ℕ} {l : List ℕ} (i c : ℕ) → ((t : Result) → ¬ Settled (length s) (heldAt T i) t) → Stacked rule s T W d l
+      → Stacked rule s (stored T i c) W d l
   stacked-still i c n alone = alone
   stacked-still i c n (above k e h t) = above k e (called-still i c n h) (stacked-still i c n t)
 

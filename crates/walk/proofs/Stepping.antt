@@ -8,9 +8,10 @@ use native.Mathlib.Omega.{arith}
 use lib.ListN.{length, getD, set, drop, length-set}
 use lib.Seq.{getD-set-same, drop-set-lt}
 use Rattle.calls.proofs.Clash.{clash}
-use Rattle.calls.proofs.Links.{view}
 use Rattle.calls.proofs.Table.{weight, opened}
 use Rattle.grammar.specs.Rule.{Rule, call}
+use Rattle.schema.specs.Cells.{heldAt, stored}
+use Rattle.schema.proofs.Cells.{stored-there, view}
 use Rattle.schema.specs.Closed.{Closed}
 use Rattle.schema.specs.Derivation.{Pair, _at_, Result, success, failure, Stop, missing, end, gives, stops, calls, act, second, stopped, result, loop}
 use Rattle.schema.specs.Table.{Within, cell, cells, held}
@@ -83,7 +84,7 @@ module _ (rule : ℕ → Rule) (s : List ℕ) where
   pub looked-held : (T : List ℕ) {T′ : List ℕ} (y : Pair) {r : Result} → cell (length s) y < length T → LookedUp rule s T y r T′ → Settled (length s) (held (length s) T′ y) r
   looked-held T y l (settled-before m) = m
   looked-held T y {r = r} l (leaf-settled {c} u e m) =
-      subst (λ (j : ℕ). Settled (length s) j r) (sym (getD-set-same T (cell (length s) y) c 0 l)) m
+      subst (λ (j : ℕ). Settled (length s) j r) (sym (stored-there T (cell (length s) y) c l)) m
 
   second-next : {T T′ : List ℕ} {k : Bool} (A p : ℕ) {y : Pair} (z : Pair) (c : ℕ) (r : Result) → k ≡ false → Called rule s T k (A at p) y
       → Settled (length s) (held (length s) T′ y) r → Settled (length s) c r → ((B C D : ℕ) → rule A ≡ call B C D → z ≡ second C D p (resultOf c))
@@ -107,7 +108,7 @@ module _ (rule : ℕ → Rule) (s : List ℕ) where
       work-same = refl;
     })
 
-    steps-settle : x .second ≡ true → T′ ≡ set T₁ (cell (length s) (topOf x)) (c .0) → (z : Step) → GoesBack W x c z → Steps rule s T W T′ W x z
+    steps-settle : x .second ≡ true → T′ ≡ stored T₁ (cell (length s) (topOf x)) (c .0) → (z : Step) → GoesBack W x c z → Steps rule s T W T′ W x z
     steps-settle e t z h = go z h
       where
         settles : Settles rule s T W T′ W x (c .0)
@@ -125,7 +126,7 @@ module _ (rule : ℕ → Rule) (s : List ℕ) where
     steps-resume z (inr h) = subst (Steps rule s T W T′ W x) (sym (h .2 .1)) (steps-second (h .0) (h .1) (h .2 .0) (h .2 .2))
 
   -- The called pair is opened.
-  pub opens-called : {T W T′ W′ : List ℕ} (x : State) → Unsettled (held (length s) T (calledOf x)) → T′ ≡ set T (cell (length s) (calledOf x)) openMark
+  pub opens-called : {T W T′ W′ : List ℕ} (x : State) → Unsettled (held (length s) T (calledOf x)) → T′ ≡ stored T (cell (length s) (calledOf x)) openMark
       → W′ ≡ set W (x .depth) (entry (x .second) (topOf x)) → Opens s T W T′ W′ x
   opens-called x u t w = record { new = u; table-is = t; work-is = w }
 
@@ -187,8 +188,8 @@ module _ (rule : ℕ → Rule) (s : List ℕ) (v : ℕ) (closed : Closed v rule)
         let f = leaf-falls rule s v closed few short (g .within) (g .through) room (y .called) (y .place) (g .called) u c r m e in
         record {
           through = leaf-through rule s v closed few short (g .within) (g .through) room (y .called) (y .place) (g .called) u c r m e;
-          called = called-still i c (λ t h. settled-not (length s) (getD T i 0) t h u) (g .called);
-          stacked = stacked-still i c (λ t h. settled-not (length s) (getD T i 0) t h u) (g .stacked);
+          called = called-still i c (λ t h. settled-not (length s) (heldAt T i) t h u) (g .called);
+          stacked = stacked-still i c (λ t h. settled-not (length s) (heldAt T i) t h u) (g .stacked);
           held-is = looked-held rule s T (calledOf y) (in-table (calledOf y) called-in) (leaf-settled u e m);
           no-more = omega arith;
         }
@@ -229,7 +230,7 @@ module _ (rule : ℕ → Rule) (s : List ℕ) (v : ℕ) (closed : Closed v rule)
       opened-stacked =
           let i = cell (length s) (calledOf y) in
           let c = entry (y .second) (topOf y) in
-          let free : (t : Result) → ¬ Settled (length s) (getD T i 0) t = λ t h. settled-not (length s) (getD T i 0) t h (o .new) in
+          let free : (t : Result) → ¬ Settled (length s) (heldAt T i) t = λ t h. settled-not (length s) (heldAt T i) t h (o .new) in
           let d = deep-enough (g .through) (g .stacked) in
           let z = g .work-size in
           rw (o .table-is, o .work-is) (above (y .second)
@@ -318,10 +319,10 @@ module _ (rule : ℕ → Rule) (s : List ℕ) (v : ℕ) (closed : Closed v rule)
       settled-through : Through rule s v x O T′ (g .stack)
       settled-through = rw (h .table-is) (settle-through rule s v closed few short (g .within) (found .through) room c (h .r) (h .code-is) given)
 
-      top-open : (t : Result) → ¬ Settled (length s) (getD (h .T₁) (cell (length s) (topOf y)) 0) t
+      top-open : (t : Result) → ¬ Settled (length s) (heldAt (h .T₁) (cell (length s) (topOf y))) t
       top-open =
           let i = cell (length s) (topOf y) in
-          open-unsettled (stands (length s) (getD (h .T₁) i 0) opened (found .through .fits i (cell-below v (length s) (topOf y) (g .within)))
+          open-unsettled (stands (length s) (heldAt (h .T₁) i) opened (found .through .fits i (cell-below v (length s) (topOf y) (g .within)))
           (found .through .inv .on-open i (inl refl)))
 
       settled-falls : (z : State) → toDo T′ N z < toDo T N y
@@ -357,12 +358,12 @@ module _ (rule : ℕ → Rule) (s : List ℕ) (v : ℕ) (closed : Closed v rule)
                 within = subst (PairWithin v (length s)) (sym top) w;
                 called =
                     rw (b .second-is ∙ parts .call, h .table-is)
-                    (subst (λ (u : Pair). Called rule s (set (h .T₁) (cell (length s) (topOf y)) c) k u (calledOf z)) (sym top)
-                    (subst (Called rule s (set (h .T₁) (cell (length s) (topOf y)) c) k (pairOf (length s) i)) under-is still));
+                    (subst (λ (u : Pair). Called rule s (stored (h .T₁) (cell (length s) (topOf y)) c) k u (calledOf z)) (sym top)
+                    (subst (Called rule s (stored (h .T₁) (cell (length s) (topOf y)) c) k (pairOf (length s) i)) under-is still));
                 through = subst (λ (u : ℕ). Through rule s v x O T′ (u ∷ l)) (sym cell-is) t;
                 stacked =
                     rw (h .table-is, h .work-same, ← d-is)
-                    (subst (λ (u : ℕ). Stacked rule s (set (h .T₁) (cell (length s) (topOf y)) c) W d (u ∷ l)) (sym cell-is)
+                    (subst (λ (u : ℕ). Stacked rule s (stored (h .T₁) (cell (length s) (topOf y)) c) W d (u ∷ l)) (sym cell-is)
                     (stacked-still (cell (length s) (topOf y)) c top-open rest));
                 work-later = ap (drop N) (h .work-same) ∙ g .work-later;
                 work-size = ap length (h .work-same) ∙ g .work-size;
@@ -468,7 +469,7 @@ module _ {rule : ℕ → Rule} {s : List ℕ} {v A p : ℕ} {T₀ W₀ : List �
 
   -- The asked pair is a leaf,
   pub leaf-ends : (c : Cell) (t : Result) → Settled (length s) (c .0) t → act rule s (A at p) ≡ gives t
-      → WalkEnds rule s v (A at p) O (set T₀ (cell (length s) (A at p)) (c .0)) W₀ W₀ (walk.Settled c)
+      → WalkEnds rule s v (A at p) O (stored T₀ (cell (length s) (A at p)) (c .0)) W₀ W₀ (walk.Settled c)
   leaf-ends c t m e = record {
     opens = [];
     table =

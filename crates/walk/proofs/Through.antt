@@ -2,20 +2,20 @@
 use mathlib.Core.Path.{_≡_, refl, sym, ap, _∙_, subst}
 use mathlib.Core.Bool.{Bool}
 use mathlib.Core.List.{List, [], _∷_}
-use mathlib.Core.Logic.{_⊎_, inl, inr, _≢_}
+use mathlib.Core.Logic.{_⊎_, inl, inr}
 use Prim.Native.Nat.{ℕ, _≤_, _<_}
 use native.Mathlib.Decide.{ℕ-discrete}
 use native.Mathlib.Omega.{arith}
-use lib.ListN.{length, getD, set, drop, length-set}
-use lib.Seq.{getD-set-same, getD-set-other, drop-set-lt, set-set}
+use lib.ListN.{length, drop}
 use Rattle.calls.proofs.Clash.{clash}
 use Rattle.calls.proofs.Follow.{In}
 use Rattle.calls.proofs.Holding.{any-kept}
 use Rattle.calls.proofs.Invariant.{Inv, Bounded, inv-start, open-next, settle-top, link-calls, top-reach}
-use Rattle.calls.proofs.Links.{view, put-set}
 use Rattle.calls.proofs.Reach.{Reach, itself, reach-on}
 use Rattle.calls.proofs.Table.{Mark, blank, opened, settled, Put, cost, weight, weight-falls}
 use Rattle.grammar.specs.Rule.{Rule}
+use Rattle.schema.specs.Cells.{heldAt, stored}
+use Rattle.schema.proofs.Cells.{stored-there, stored-elsewhere, stored-later, stored-length, stored-twice, view, view-stored}
 use Rattle.schema.specs.Closed.{Variable, Closed}
 use Rattle.schema.specs.Derivation.{Pair, _at_, Result, success, failure, gives, act, second}
 use Rattle.schema.specs.Table.{Within, cell, cells, held}
@@ -30,16 +30,16 @@ use Rattle.walk.proofs.Bridge.{top-free, called-link, given-fits}
 -- What holds all through a question about x, with the open cells l: O is the table before x was opened, T as it is.
 pub record Through (rule : ℕ → Rule) (s : List ℕ) (v : ℕ) (x : Pair) (O T l : List ℕ) : Type 0 where
   pub inv : Inv (heldCells rule s (view mark O)) (cells v (length s)) (view mark O) (cell (length s) x) (view mark T) l
-  pub fits-before : (i : ℕ) → i < cells v (length s) → Fits (length s) (getD O i 0)
-  pub fits : (i : ℕ) → i < cells v (length s) → Fits (length s) (getD T i 0)
-  pub changed : (i : ℕ) → i < cells v (length s) → (getD T i 0 ≡ getD O i 0) ⊎ Reach (heldCells rule s (view mark O)) (cell (length s) x) i
+  pub fits-before : (i : ℕ) → i < cells v (length s) → Fits (length s) (heldAt O i)
+  pub fits : (i : ℕ) → i < cells v (length s) → Fits (length s) (heldAt T i)
+  pub changed : (i : ℕ) → i < cells v (length s) → (heldAt T i ≡ heldAt O i) ⊎ Reach (heldCells rule s (view mark O)) (cell (length s) x) i
   pub later : drop (cells v (length s)) T ≡ drop (cells v (length s)) O
   pub size : length T ≡ length O
 
-fits-set : (n N : ℕ) (T : List ℕ) (y c : ℕ) → y < length T → Fits n c → ((i : ℕ) → i < N → Fits n (getD T i 0)) → (i : ℕ) → i < N → Fits n (getD (set T y c) i 0)
+fits-set : (n N : ℕ) (T : List ℕ) (y c : ℕ) → y < length T → Fits n c → ((i : ℕ) → i < N → Fits n (heldAt T i)) → (i : ℕ) → i < N → Fits n (heldAt (stored T y c) i)
 fits-set n N T y c l f h i k = elim (ℕ-discrete i y) [
-  | yes e ↦ subst (Fits n) (sym (ap (λ (j : ℕ). getD (set T y c) j 0) e ∙ getD-set-same T y c 0 l)) f
-  | no d ↦ subst (Fits n) (sym (getD-set-other T y i c 0 d)) (h i k)
+  | yes e ↦ subst (Fits n) (sym (ap (λ (j : ℕ). heldAt (stored T y c) j) e ∙ stored-there T y c l)) f
+  | no d ↦ subst (Fits n) (sym (stored-elsewhere T y i c d)) (h i k)
 ]
 
 -- A cell that holds a result fits.
@@ -52,10 +52,10 @@ ends-below n (success q) e = e
 ends-below n failure e = tt
 
 -- Whatever the table before holds, what the walk calls has a cell.
-pub start-bounded : (rule : ℕ → Rule) (s : List ℕ) (v : ℕ) (closed : Closed v rule) (O : List ℕ) → ((i : ℕ) → i < cells v (length s) → Fits (length s) (getD O i 0))
+pub start-bounded : (rule : ℕ → Rule) (s : List ℕ) (v : ℕ) (closed : Closed v rule) (O : List ℕ) → ((i : ℕ) → i < cells v (length s) → Fits (length s) (heldAt O i))
     → Bounded (heldCells rule s (view mark O)) (cells v (length s))
 start-bounded rule s v closed O f =
-    held-bounded rule s v closed (view mark O) (λ i r l e. ends-below (length s) r (stands (length s) (getD O i 0) (settled r) (f i l) e .ends))
+    held-bounded rule s v closed (view mark O) (λ i r l e. ends-below (length s) r (stands (length s) (heldAt O i) (settled r) (f i l) e .ends))
 
 module _ (rule : ℕ → Rule) (s : List ℕ) (v : ℕ) (closed : Closed v rule) (few : v ≤ 256) (short : length s ≤ 4096) where
   pub second-within : (C D p : ℕ) (t : Result) → Variable v C → Variable v D → p ≤ length s → Ends (length s) t → PairWithin v (length s) (second C D p t)
@@ -72,7 +72,7 @@ module _ (rule : ℕ → Rule) (s : List ℕ) (v : ℕ) (closed : Closed v rule)
       second-within C D p t (c .1) (c .2) (w .place) (m .ends)
 
   module _ (A p : ℕ) (T₀ W₀ : List ℕ) (r : WalkReady rule s v A p T₀ W₀) where
-    start-fits : (i : ℕ) → i < cells v (length s) → Fits (length s) (getD (before (length s) (A at p) T₀) i 0)
+    start-fits : (i : ℕ) → i < cells v (length s) → Fits (length s) (heldAt (before (length s) (A at p) T₀) i)
     start-fits =
         let b = cell-below v (length s) (A at p) (r .within) in
         let m = r .walkable .room in
@@ -88,32 +88,32 @@ module _ (rule : ℕ → Rule) (s : List ℕ) (v : ℕ) (closed : Closed v rule)
         let l : x < length T₀ = omega arith in
         let z = mark-blank 0 (record { no-failure = λ e. omega arith; no-success = omega arith }) in
         let o : Put (view mark (before n (A at p) T₀)) x opened (view mark T₀) =
-        record { there = mark-open (getD T₀ x 0) (r .opened); others = λ y d. ap mark (sym (getD-set-other T₀ x y 0 0 d)) } in
+        record { there = mark-open (heldAt T₀ x) (r .opened); others = λ y d. ap mark (sym (stored-elsewhere T₀ x y 0 d)) } in
         record {
           inv =
               inv-start (heldCells rule s (view mark (before n (A at p) T₀))) (cells v n) x
               (any-kept (gtsCells rule s) (view mark (before n (A at p) T₀)) (cells v n)
-              (λ i k e. r .no-open i k (stands n (getD (before n (A at p) T₀) i 0) opened (start-fits i k) e))) b
-              (ap mark (getD-set-same T₀ x 0 0 l) ∙ z) o;
+              (λ i k e. r .no-open i k (stands n (heldAt (before n (A at p) T₀) i) opened (start-fits i k) e))) b
+              (ap mark (stored-there T₀ x 0 l) ∙ z) o;
           fits-before = start-fits;
           fits = r .walkable .fits;
           changed = λ i k. elim (ℕ-discrete i x) [
             | yes e ↦ inr (subst (Reach (heldCells rule s (view mark (before n (A at p) T₀))) x) (sym e) itself)
-            | no d ↦ inl (sym (getD-set-other T₀ x i 0 0 d))
+            | no d ↦ inl (sym (stored-elsewhere T₀ x i 0 d))
           ];
-          later = sym (drop-set-lt (cells v n) T₀ x 0 b);
-          size = sym (length-set T₀ x 0);
+          later = sym (stored-later (cells v n) T₀ x 0 b);
+          size = sym (stored-length T₀ x 0);
         }
 
   module _ {x : Pair} {O T : List ℕ} {l : List ℕ} (g : Through rule s v x O T l) where
     changed-set : (y c : ℕ) → Reach (heldCells rule s (view mark O)) (cell (length s) x) y → (i : ℕ) → i < cells v (length s)
-        → (getD (set T y c) i 0 ≡ getD O i 0) ⊎ Reach (heldCells rule s (view mark O)) (cell (length s) x) i
+        → (heldAt (stored T y c) i ≡ heldAt O i) ⊎ Reach (heldCells rule s (view mark O)) (cell (length s) x) i
     changed-set y c r i l = elim (ℕ-discrete i y) [
       | yes e ↦ inr (subst (Reach (heldCells rule s (view mark O)) (cell (length s) x)) (sym e) r)
-      | no d ↦ was (g .changed i l) (getD-set-other T y i c 0 d)
+      | no d ↦ was (g .changed i l) (stored-elsewhere T y i c d)
     ]
       where
-        was : {m k : ℕ} → (getD T i 0 ≡ m) ⊎ Reach (heldCells rule s (view mark O)) (cell (length s) x) i → k ≡ getD T i 0
+        was : {m k : ℕ} → (heldAt T i ≡ m) ⊎ Reach (heldCells rule s (view mark O)) (cell (length s) x) i → k ≡ heldAt T i
             → (k ≡ m) ⊎ Reach (heldCells rule s (view mark O)) (cell (length s) x) i
         was (inl h) q = inl (q ∙ h)
         was (inr h) q = inr h
@@ -126,27 +126,27 @@ module _ (rule : ℕ → Rule) (s : List ℕ) (v : ℕ) (closed : Closed v rule)
     top-below = cell-below v (length s) (a at p) within
 
     module _ (c : ℕ) (r : Result) (m : Settled (length s) c r) (given : Given rule s T (a at p) r) where
-      pub settle-put : Put (view mark T) (cell (length s) (a at p)) (settled r) (view mark (set T (cell (length s) (a at p)) c))
+      pub settle-put : Put (view mark T) (cell (length s) (a at p)) (settled r) (view mark (stored T (cell (length s) (a at p)) c))
       settle-put =
           let l = top-below in
           let z = g .size in
-          subst (λ (k : Mark Result). Put (view mark T) (cell (length s) (a at p)) k (view mark (set T (cell (length s) (a at p)) c)))
-          (mark-settled (length s) c r short m) (put-set mark T (cell (length s) (a at p)) c (omega arith))
+          subst (λ (k : Mark Result). Put (view mark T) (cell (length s) (a at p)) k (view mark (stored T (cell (length s) (a at p)) c)))
+          (mark-settled (length s) c r short m) (view-stored mark T (cell (length s) (a at p)) c (omega arith))
 
-      pub settle-falls : weight (view mark (set T (cell (length s) (a at p)) c)) (cells v (length s)) < weight (view mark T) (cells v (length s))
+      pub settle-falls : weight (view mark (stored T (cell (length s) (a at p)) c)) (cells v (length s)) < weight (view mark T) (cells v (length s))
       unfolding cost
       settle-falls =
           let o = ap cost (g .inv .on-open (cell (length s) (a at p)) (inl refl)) in
           weight-falls (cells v (length s)) top-below settle-put (omega arith)
 
-      settle-inv : Inv (heldCells rule s (view mark O)) (cells v (length s)) (view mark O) (cell (length s) x) (view mark (set T (cell (length s) (a at p)) c)) stack
+      settle-inv : Inv (heldCells rule s (view mark O)) (cells v (length s)) (view mark O) (cell (length s) x) (view mark (stored T (cell (length s) (a at p)) c)) stack
       settle-inv =
           let bounded = start-bounded rule s v closed O (g .fits-before) in
           settle-top (heldCells rule s (view mark O)) (cells v (length s)) bounded (g .inv)
           (given-fits rule s v closed short O T bounded within (g .inv) given) settle-put
 
       -- What holds once it is stored.
-      pub settle-through : Through rule s v x O (set T (cell (length s) (a at p)) c) stack
+      pub settle-through : Through rule s v x O (stored T (cell (length s) (a at p)) c) stack
       settle-through =
           let n = length s in
           let N = cells v n in
@@ -158,11 +158,11 @@ module _ (rule : ℕ → Rule) (s : List ℕ) (v : ℕ) (closed : Closed v rule)
             fits-before = g .fits-before;
             fits = fits-set n N T top c (omega arith) (code-fits n c r m) (g .fits);
             changed = changed-set g top c (top-reach (heldCells rule s (view mark O)) N (start-bounded rule s v closed O (g .fits-before)) (g .inv));
-            later = drop-set-lt N T top c l ∙ g .later;
-            size = length-set T top c ∙ g .size;
+            later = stored-later N T top c l ∙ g .later;
+            size = stored-length T top c ∙ g .size;
           }
 
-      pub settle-there : view mark (set T (cell (length s) (a at p)) c) (cell (length s) (a at p)) ≡ settled r
+      pub settle-there : view mark (stored T (cell (length s) (a at p)) c) (cell (length s) (a at p)) ≡ settled r
       settle-there = settle-put .there
 
   -- ---- A called pair that is to be opened.
@@ -176,22 +176,22 @@ module _ (rule : ℕ → Rule) (s : List ℕ) (v : ℕ) (closed : Closed v rule)
     open-below : cell (length s) (b at q) < cells v (length s)
     open-below = cell-below v (length s) (b at q) open-within
 
-    pub open-put : Put (view mark T) (cell (length s) (b at q)) opened (view mark (set T (cell (length s) (b at q)) openMark))
+    pub open-put : Put (view mark T) (cell (length s) (b at q)) opened (view mark (stored T (cell (length s) (b at q)) openMark))
     open-put =
         let l = open-below in
         let z = g .size in
-        subst (λ (m : Mark Result). Put (view mark T) (cell (length s) (b at q)) m (view mark (set T (cell (length s) (b at q)) openMark)))
-        (mark-open openMark refl) (put-set mark T (cell (length s) (b at q)) openMark (omega arith))
+        subst (λ (m : Mark Result). Put (view mark T) (cell (length s) (b at q)) m (view mark (stored T (cell (length s) (b at q)) openMark)))
+        (mark-open openMark refl) (view-stored mark T (cell (length s) (b at q)) openMark (omega arith))
 
     pub open-blank : view mark T (cell (length s) (b at q)) ≡ blank
     open-blank = mark-blank (held (length s) T (b at q)) new
 
-    pub open-falls : weight (view mark (set T (cell (length s) (b at q)) openMark)) (cells v (length s)) < weight (view mark T) (cells v (length s))
+    pub open-falls : weight (view mark (stored T (cell (length s) (b at q)) openMark)) (cells v (length s)) < weight (view mark T) (cells v (length s))
     unfolding cost
     open-falls = let c = ap cost open-blank in weight-falls (cells v (length s)) open-below open-put (omega arith)
 
     -- What holds once it is opened.
-    pub open-through : Through rule s v x O (set T (cell (length s) (b at q)) openMark) (cell (length s) (b at q) ∷ cell (length s) (a at p) ∷ stack)
+    pub open-through : Through rule s v x O (stored T (cell (length s) (b at q)) openMark) (cell (length s) (b at q) ∷ cell (length s) (a at p) ∷ stack)
     open-through =
         let n = length s in
         let N = cells v n in
@@ -207,8 +207,8 @@ module _ (rule : ℕ → Rule) (s : List ℕ) (v : ℕ) (closed : Closed v rule)
           fits-before = g .fits-before;
           fits = fits-set n N T y openMark (omega arith) (inr refl) (g .fits);
           changed = changed-set g y openMark reach;
-          later = drop-set-lt N T y openMark l ∙ g .later;
-          size = length-set T y openMark ∙ g .size;
+          later = stored-later N T y openMark l ∙ g .later;
+          size = stored-length T y openMark ∙ g .size;
         }
 
     -- It is not open yet.
@@ -218,14 +218,14 @@ module _ (rule : ℕ → Rule) (s : List ℕ) (v : ℕ) (closed : Closed v rule)
     -- ---- A leaf gets its result at once: it is opened and settled.
 
     module _ (c : ℕ) (r : Result) (m : Settled (length s) c r) (e : act rule s (b at q) ≡ gives r) where
-      pub leaf-through : Through rule s v x O (set T (cell (length s) (b at q)) c) (cell (length s) (a at p) ∷ stack)
+      pub leaf-through : Through rule s v x O (stored T (cell (length s) (b at q)) c) (cell (length s) (a at p) ∷ stack)
       leaf-through =
-          subst (λ (U : List ℕ). Through rule s v x O U (cell (length s) (a at p) ∷ stack)) (set-set T (cell (length s) (b at q)) openMark c)
+          subst (λ (U : List ℕ). Through rule s v x O U (cell (length s) (a at p) ∷ stack)) (stored-twice T (cell (length s) (b at q)) openMark c)
           (settle-through open-within open-through room c r m (by-leaf e))
 
-      pub leaf-falls : weight (view mark (set T (cell (length s) (b at q)) c)) (cells v (length s)) < weight (view mark T) (cells v (length s))
+      pub leaf-falls : weight (view mark (stored T (cell (length s) (b at q)) c)) (cells v (length s)) < weight (view mark T) (cells v (length s))
       leaf-falls =
           let f = open-falls in
           let h = settle-falls open-within open-through room c r m (by-leaf e) in
-          let z = ap (λ (U : List ℕ). weight (view mark U) (cells v (length s))) (set-set T (cell (length s) (b at q)) openMark c) in
+          let z = ap (λ (U : List ℕ). weight (view mark U) (cells v (length s))) (stored-twice T (cell (length s) (b at q)) openMark c) in
           omega arith

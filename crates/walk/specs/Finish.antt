@@ -3,8 +3,9 @@ use mathlib.Core.List.{List}
 use mathlib.Core.Logic.{_≢_}
 use mathlib.Core.Path.{_≡_}
 use Prim.Native.Nat.{ℕ, _≤_, _<_}
-use lib.ListN.{length, getD}
+use lib.ListN.{length}
 use Rattle.grammar.specs.Refusal.{accepted}
+use Rattle.schema.specs.Cells.{heldAt}
 use Rattle.schema.specs.Table.{cells, code}
 use Rattle.walk.specs.Reply.{reply, told, Code}
 use Rattle.walk.specs.Walk.{openMark, outcomeOf, namedOf, CloseReady, Closes}
@@ -18,7 +19,7 @@ pub record NothingOpen (n v c : ℕ) (T : List ℕ) : Type 0 where
   pub short : n ≤ 4096
   pub room : cells v n ≤ length T
   pub code-is : Code c
-  pub no-open : (i : ℕ) → i < cells v n → getD T i 0 ≢ openMark
+  pub no-open : (i : ℕ) → i < cells v n → heldAt T i ≢ openMark
 
 -- What the last step asks, by how the walk ended: an open cell is closed with the outcome's code.
 abbrev pub FinishReady : ℕ → ℕ → List ℕ → List ℕ → Walk → Type 0

@@ -2,9 +2,10 @@
 use mathlib.Core.List.{List}
 use mathlib.Core.Path.{_≡_}
 use Prim.Native.Nat.{ℕ, _+_, _-_, _≤_, _<_}
-use lib.ListN.{length, getD, take, drop}
+use lib.ListN.{length, take, drop}
 use Rattle.grammar.specs.Refusal.{Checked, accepted}
 use Rattle.grammar.specs.Rule.{Rule}
+use Rattle.schema.specs.Cells.{heldAt}
 use Rattle.schema.specs.Closed.{Closed}
 use Rattle.schema.specs.Derivation.{Pair, Outcome, Has}
 use Rattle.schema.specs.Reached.{Named}
@@ -20,7 +21,7 @@ pub record OverReady (rule : ℕ → Rule) (input : List ℕ) (v A p : ℕ) (tab
   pub within : Within v (length input) A p
   pub room : cells v (length input) ≤ length table
   pub work-room : cells v (length input) ≤ length work
-  pub in-range : (i : ℕ) → i < cells v (length input) → getD table i 0 ≤ 5 + length input
+  pub in-range : (i : ℕ) → i < cells v (length input) → heldAt table i ≤ 5 + length input
 
 -- From a right table: the count is of newly decided cells.
 pub record OverAnswers (rule : ℕ → Rule) (v : ℕ) (input : List ℕ) (x : Pair) (table table′ : List ℕ) (r : Reply) : Type 0 where

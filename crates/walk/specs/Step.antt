@@ -7,6 +7,7 @@ use Prim.Native.Nat.{ℕ, _+_, _/_, _%_, _≤_, _<_}
 use lib.Dec.{eqb}
 use lib.ListN.{length, getD, set}
 use Rattle.grammar.specs.Rule.{Rule, call}
+use Rattle.schema.specs.Cells.{stored}
 use Rattle.schema.specs.Derivation.{Pair, _at_, Result, Stop, missing, end, gives, stops, calls, act, second}
 use Rattle.schema.specs.Table.{Within, cell, cells, held}
 use Rattle.walk.specs.Reply.{Code}
@@ -23,7 +24,7 @@ use Rattle.walk.specs.declared.Walk.the-variants as walk
 -- The table once y is known to have the result r: as it was, or with the cell of a leaf settled in it.
 pub data LookedUp (rule : ℕ → Rule) (s T : List ℕ) (y : Pair) (r : Result) : List ℕ → Type 0 where
   settled-before : Settled (length s) (held (length s) T y) r → LookedUp rule s T y r T
-  leaf-settled : {c : ℕ} → Unsettled (held (length s) T y) → act rule s y ≡ gives r → Settled (length s) c r → LookedUp rule s T y r (set T (cell (length s) y) c)
+  leaf-settled : {c : ℕ} → Unsettled (held (length s) T y) → act rule s y ≡ gives r → Settled (length s) c r → LookedUp rule s T y r (stored T (cell (length s) y) c)
 
 -- ---- One step of the walk.
 
@@ -61,7 +62,7 @@ pub record Settles (rule : ℕ → Rule) (s T W T′ W′ : List ℕ) (x : State
   pub code-is : Settled (length s) c r
   pub T₁ : List ℕ
   pub looked-up : LookedUp rule s T (calledOf x) r T₁
-  pub table-is : T′ ≡ set T₁ (cell (length s) (topOf x)) c
+  pub table-is : T′ ≡ stored T₁ (cell (length s) (topOf x)) c
   pub work-same : W′ ≡ W
 
 -- Its caller, the latest in the work slice, is next.
@@ -99,13 +100,13 @@ pub record ResumeReady (n : ℕ) (T W : List ℕ) (x : State) (c : ℕ) : Type 0
 -- and what it does.
 abbrev pub Resumes : (ℕ → Rule) → ℕ → List ℕ → List ℕ → List ℕ → State → Cell → Step → Type 0
 Resumes rule n T W T′ x c r =
-    ((x .second ≡ true) × (T′ ≡ set T (cell n (topOf x)) (c .0)) × GoesBack W x c r)
+    ((x .second ≡ true) × (T′ ≡ stored T (cell n (topOf x)) (c .0)) × GoesBack W x c r)
     ⊎ ((x .second ≡ false) × (T′ ≡ T) × ((y : State) × (r ≡ step.On y) × ToSecond rule x c y))
 
 -- The called pair is opened, and its caller noted.
 pub record Opens (s T W T′ W′ : List ℕ) (x : State) : Type 0 where
   pub new : Unsettled (held (length s) T (calledOf x))
-  pub table-is : T′ ≡ set T (cell (length s) (calledOf x)) openMark
+  pub table-is : T′ ≡ stored T (cell (length s) (calledOf x)) openMark
   pub work-is : W′ ≡ set W (x .depth) (entry (x .second) (topOf x))
 
 -- It calls in turn.

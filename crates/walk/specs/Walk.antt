@@ -5,8 +5,9 @@ use mathlib.Core.Logic.{_⊎_, _≢_}
 use mathlib.Core.Path.{_≡_}
 use Prim.Native.Nat.{ℕ, suc, _+_, _-_, _*_, _≤_, _<_}
 use lib.Dec.{eqb}
-use lib.ListN.{length, getD, set, take, drop}
+use lib.ListN.{length, getD, take, drop}
 use Rattle.grammar.specs.Rule.{Rule}
+use Rattle.schema.specs.Cells.{heldAt, stored}
 use Rattle.schema.specs.Derivation.{Pair, _at_, Result, success, failure, missing, end, gives, calls, act, second, Outcome, result, stopped, loop, Has}
 use Rattle.schema.specs.Closed.{Closed}
 use Rattle.schema.specs.Reached.{Reached, Named}
@@ -55,7 +56,7 @@ pub record Walkable (rule : ℕ → Rule) (s : List ℕ) (v : ℕ) (T : List ℕ
   pub short : length s ≤ 4096
   pub closed : Closed v rule
   pub room : cells v (length s) ≤ length T
-  pub fits : (i : ℕ) → i < cells v (length s) → Fits (length s) (getD T i 0)
+  pub fits : (i : ℕ) → i < cells v (length s) → Fits (length s) (heldAt T i)
 
 -- ---- Walking from an open pair.
 
@@ -77,21 +78,21 @@ pub data Trail (W : List ℕ) (root : Pair) : ℕ → List Pair → Type 0 where
 -- A table to begin with (document 01 blanks it; a kept one serves too): no pair is open, what it holds of results is right, and what a pair with
 -- a result calls has its result in it too.
 pub record RightTable (rule : ℕ → Rule) (s : List ℕ) (v : ℕ) (O : List ℕ) : Type 0 where
-  pub no-open : (i : ℕ) → i < cells v (length s) → getD O i 0 ≢ openMark
+  pub no-open : (i : ℕ) → i < cells v (length s) → heldAt O i ≢ openMark
   pub right : (A p : ℕ) (r : Result) → Within v (length s) A p → Settled (length s) (held (length s) O (A at p)) r → Has rule s (A at p) (result r)
   pub whole : (A B C D p : ℕ) (r : Result) → Within v (length s) A p → Settled (length s) (held (length s) O (A at p)) r → act rule s (A at p) ≡ calls B C D
       → (t : Result) × (u : Result) × Settled (length s) (held (length s) O (B at p)) t × Settled (length s) (held (length s) O (second C D p t)) u
 
 -- The table before the asked pair x was opened in it.
 abbrev pub before : ℕ → Pair → List ℕ → List ℕ
-before n x T = set T (cell n x) 0
+before n x T = stored T (cell n x) 0
 
 -- What the walk asks: the asked pair open in a table, and no other, and room for a caller of each cell. The table may hold anything else.
 pub record WalkReady (rule : ℕ → Rule) (s : List ℕ) (v A p : ℕ) (T W : List ℕ) : Type 0 where
   pub walkable : Walkable rule s v T
   pub within : Within v (length s) A p
   pub opened : held (length s) T (A at p) ≡ openMark
-  pub no-open : (i : ℕ) → i < cells v (length s) → getD (before (length s) (A at p) T) i 0 ≢ openMark
+  pub no-open : (i : ℕ) → i < cells v (length s) → heldAt (before (length s) (A at p) T) i ≢ openMark
   pub work-room : cells v (length s) ≤ length W
 
 -- How many cells the next number of a cell decides: one where the cell is blank.
@@ -191,7 +192,7 @@ pub record CloseReady (n v B q d c : ℕ) (T W : List ℕ) : Type 0 where
 
 -- Every open cell of the first N holds c, and no other cell changes.
 pub record Closes (N c : ℕ) (T T′ : List ℕ) : Type 0 where
-  pub opened : (i : ℕ) → i < N → getD T i 0 ≡ openMark → getD T′ i 0 ≡ c
-  pub others : (i : ℕ) → getD T i 0 ≢ openMark → getD T′ i 0 ≡ getD T i 0
+  pub opened : (i : ℕ) → i < N → heldAt T i ≡ openMark → heldAt T′ i ≡ c
+  pub others : (i : ℕ) → heldAt T i ≢ openMark → heldAt T′ i ≡ heldAt T i
   pub later : drop N T′ ≡ drop N T
   pub size : length T′ ≡ length T

@@ -2,11 +2,12 @@
 ghost use mathlib.Core.Path.{_≡_};
 ghost use mathlib.Core.List.{_++_};
 ghost use Prim.Native.Nat.{ℕ, _+_, _*_, _/_, _%_, _≤_, _<_};
-ghost use lib.ListN.{length, drop, replicate, getD, set};
+ghost use lib.ListN.{length, drop, replicate, set};
 ghost use lib.Dec.{eqb};
 ghost use Rattle.grammar.specs.Refusal.{accepted};
 ghost use Rattle.grammar.specs.Words.{ruleIn};
 ghost use Rattle.schema.specs.Derivation.{_at_, calls, act, result};
+ghost use Rattle.schema.specs.Cells.{heldAt, stored};
 ghost use Rattle.schema.specs.Table.{cell, cells, held};
 ghost use Rattle.walk.specs.Reply.{told, reply, Code};
 ghost use Rattle.walk.specs.Walk.{openMark, Unsettled, packed, entry, WalkReady, fresh, Counts, WalkEnds, before, resultOf, CloseReady, Closes};
@@ -55,7 +56,7 @@ impl Cell {
     // The cell of a number.
     pub fn load(table: &[u32], index: usize) -> Cell
         requires { ⌜ index < length (now table) ⌝ }
-        ensures { λ r. ⌜ r .0 ≡ getD (now (table .entry)) index 0 ⌝ }
+        ensures { λ r. ⌜ r .0 ≡ heldAt (now (table .entry)) index ⌝ }
     {
         Cell(table[index])
     }
@@ -63,7 +64,7 @@ impl Cell {
     // Puts the cell at a number.
     pub fn store(self, table: &mut [u32], index: usize)
         requires { ⌜ index < length (now table) ⌝ }
-        ensures { λ _. ⌜ now (table .exit) ≡ set (now (table .entry)) index (self .0) ⌝ }
+        ensures { λ _. ⌜ now (table .exit) ≡ stored (now (table .entry)) index (self .0) ⌝ }
     {
         table[index] = self.0;
     }
@@ -173,7 +174,7 @@ fn to_second(rules: &Rules, x: State, first: Cell) -> State
 // Opens the called pair, and notes its caller.
 fn open_called(n: usize, table: &mut [u32], work: &mut [u32], x: State)
     requires { ⌜ (1 ≤ x .called) × (x .called ≤ 256) × (n ≤ 4096) × (x .place ≤ n) × (cell n (calledOf x) < length (now table)) × (x .variable ≤ 256) × (x .position ≤ 4096) × (x .depth < length (now work)) ⌝ }
-    ensures opens { λ _. ⌜ now (table .exit) ≡ set (now (table .entry)) (cell n (calledOf x)) openMark ⌝ }
+    ensures opens { λ _. ⌜ now (table .exit) ≡ stored (now (table .entry)) (cell n (calledOf x)) openMark ⌝ }
     ensures notes { λ _. ⌜ now (work .exit) ≡ set (now (work .entry)) (x .depth) (entry (x .second) (topOf x)) ⌝ }
 {
     Cell::OPEN.store(table, cell_number(n, x.called, x.place));
@@ -184,7 +185,7 @@ fn open_called(n: usize, table: &mut [u32], work: &mut [u32], x: State)
 // Settles the latest open pair, and goes back to its caller.
 fn settle_top(n: usize, table: &mut [u32], work: &[u32], x: State, cell: Cell) -> Step
     requires { ⌜ (1 ≤ x .variable) × (x .variable ≤ 256) × (n ≤ 4096) × (x .position ≤ n) × (Rattle.schema.specs.Table.cell n (topOf x) < length (now table)) × (x .depth ≤ length (now work)) ⌝ }
-    ensures stores { λ _. ⌜ now (table .exit) ≡ set (now (table .entry)) (Rattle.schema.specs.Table.cell n (topOf x)) (cell .0) ⌝ }
+    ensures stores { λ _. ⌜ now (table .exit) ≡ stored (now (table .entry)) (Rattle.schema.specs.Table.cell n (topOf x)) (cell .0) ⌝ }
     ensures returns { λ r. ⌜ GoesBack (now (work .entry)) x cell r ⌝ }
 {
     cell.store(table, cell_number(n, x.variable, x.position));
@@ -330,7 +331,7 @@ fn walk_on(
 // Settles the asked pair, which is a leaf.
 fn settle_asked(n: usize, variable: u32, position: u32, leaf: Cell, table: &mut [u32]) -> Walk
     requires { ⌜ (1 ≤ variable) × (variable ≤ 256) × (n ≤ 4096) × (position ≤ n) × (cell n (variable at position) < length (now table)) ⌝ }
-    ensures stores { λ _. ⌜ now (table .exit) ≡ set (now (table .entry)) (cell n (variable at position)) (leaf .0) ⌝ }
+    ensures stores { λ _. ⌜ now (table .exit) ≡ stored (now (table .entry)) (cell n (variable at position)) (leaf .0) ⌝ }
     ensures ends { λ r. ⌜ r ≡ Settled leaf ⌝ }
 {
     leaf.store(table, cell_number(n, variable, position));

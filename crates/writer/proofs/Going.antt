@@ -2,8 +2,8 @@
 -- nothing.
 use mathlib.Core.Path.{_≡_, refl, sym, ap, ap₂, _∙_, subst}
 use mathlib.Core.List.{List, [], _∷_, _++_}
-use mathlib.Core.Logic.{_⊎_, inl, inr, _≢_}
-use Prim.Native.Nat.{ℕ, _+_, _*_, _/_, _%_, _≤_, _<_}
+use mathlib.Core.Logic.{inl, inr, _≢_}
+use Prim.Native.Nat.{ℕ, _+_, _*_, _≤_, _<_}
 use native.Mathlib.Decide.{ℕ-discrete}
 use native.Mathlib.Omega.{arith}
 use lib.ListN.{length, set, take, drop, length-set, length-append}
@@ -21,7 +21,7 @@ use Rattle.walk.proofs.Ended.{result-is}
 use Rattle.writer.specs.declared.Place.{Place}
 use Rattle.writer.specs.declared.Step.the-variants as step
 use Rattle.writer.specs.Writer.{Unwritten, Visits, passed, leaf, node}
-use Rattle.writer.specs.Writing.{link, noLink, Lower, to-first, to-second, Own, of-leaf, of-calls, pairAt, StepReady, Descends, Lays, Returns, Steps, WriteReady, WriteEnds}
+use Rattle.writer.specs.Writing.{numberOf, link, noLink, Lower, to-first, to-second, Own, of-leaf, of-calls, pairAt, StepReady, Descends, Lays, Returns, Steps, WriteReady, WriteEnds}
 use Rattle.writer.proofs.Known.{Known, first-known, second-known, tells, told-derives, lower-known}
 use Rattle.writer.proofs.Lines.{stands-none, line-laid, laid-length}
 use Rattle.writer.proofs.Marked.{toDo, linked-less, noted-less, first-due, known-within, Chain, asked, called, chain-known, chain-odd, not-in, chain-set, link-pair, Noted, alike, unwritten, lined, noted-down, noted-line}
@@ -52,7 +52,7 @@ owed-down {rule} {s} x (t ∷ l) b u g h after n q v = λ last m k w. h last u g
 link-some : (v n : ℕ) (z : Pair) → PairWithin v n z → link z ≢ noLink
 link-some v n (A at p) w e = let l = w .low in omega arith
 
-lower-blank : {rule : ℕ → Rule} {s T W : List ℕ} {y z : Pair} → Lower rule s T W y z → held (length s) W z ≡ 0
+lower-blank : {rule : ℕ → Rule} {s T W : List ℕ} {y z : Pair} → Lower rule s T W y z → numberOf (length s) W z ≡ 0
 lower-blank (to-first e b) = b
 lower-blank (to-second e m b c) = c
 
@@ -125,8 +125,8 @@ module _ {rule : ℕ → Rule} {s : List ℕ} {v A p : ℕ} {T U out₀ : List �
         laid-length (g .lines) out₀ out (omega arith) (g .laid)
 
     -- The line of a called pair for which the work slice holds a number.
-    line-of : {z : Pair} {j : ℕ} {t : Result} → Known rule s (A at p) z j → j < g .steps → held (length s) W z ≢ 0 → Settled (length s) (held (length s) T z) t
-        → (i : ℕ) × (held (length s) W z ≡ 2 * i) × Stands (g .lines) i z t
+    line-of : {z : Pair} {j : ℕ} {t : Result} → Known rule s (A at p) z j → j < g .steps → numberOf (length s) W z ≢ 0 → Settled (length s) (held (length s) T z) t
+        → (i : ℕ) × (numberOf (length s) W z ≡ 2 * i) × Stands (g .lines) i z t
     line-of {z} a l d m =
         let h = lined (g .noted) z (known-within v (r .lines .ready .closed) (r .lines .ready .within) a) d (not-in a l (g .chain)) in
         let o = g .noted .only z (h .result) (h .number) (h .stands) in
@@ -268,9 +268,9 @@ module _ {rule : ℕ → Rule} {s : List ℕ} {v A p : ℕ} {T U out₀ : List �
         next-size : length W′ ≡ length U
         next-size = ap length (lays .work-is) ∙ length-set W (cell (length s) (pairAt y)) (2 * (y .lines + 1)) ∙ g .size
 
-        resumes : {u : Pair} {k : ℕ} (l : List Pair) → u ≡ pairAt y → Chain rule s (A at p) W u k l → held (length s) W u ≢ noLink → After rule s (A at p) l next → Noted rule s v W′ next l
+        resumes : {u : Pair} {k : ℕ} (l : List Pair) → u ≡ pairAt y → Chain rule s (A at p) W u k l → numberOf (length s) W u ≢ noLink → After rule s (A at p) l next → Noted rule s v W′ next l
             → toDo W (cells v (length s)) + 2 * y .lines + length l + 1 ≡ 2 * cells v (length s)
-            → (z : Pair) × (held (length s) W u ≡ link z) × Going rule s v (A at p) U out₀ W′ out′ z (y .lines + 1)
+            → (z : Pair) × (numberOf (length s) W u ≡ link z) × Going rule s v (A at p) U out₀ W′ out′ z (y .lines + 1)
         resumes [] q (asked a e) d f n m = absurd (d e)
         resumes {u} (w ∷ l) q (called {z = z} {j = j} a e h b) d f n m =
             let x = next-less in (
@@ -298,20 +298,20 @@ module _ {rule : ℕ → Rule} {s : List ℕ} {v A p : ℕ} {T U out₀ : List �
         goes-back {z} b =
             let k = resumes (g .callers) refl (g .chain) (b .linked) next-after next-noted (g .left) in
             let i = known-within v (r .lines .ready .closed) (r .lines .ready .within) (chain-known (k .2 .chain)) in
-            let e : pairAt z ≡ k .0 = ap₂ _at_ (b .variable-is) (b .position-is) ∙ link-pair v (length s) (held (length s) W (pairAt y)) (k .0) (r .lines .ready .short) i (k .1) in
+            let e : pairAt z ≡ k .0 = ap₂ _at_ (b .variable-is) (b .position-is) ∙ link-pair v (length s) (numberOf (length s) W (pairAt y)) (k .0) (r .lines .ready .short) i (k .1) in
             let x = next-less in (
               subst (λ (u : Pair). Going rule s v (A at p) U out₀ W′ out′ u (z .lines)) (sym e)
                   (subst (Going rule s v (A at p) U out₀ W′ out′ (k .0)) (sym (b .lines-are)) (k .2)),
               omega arith,
             )
 
-        done : {u : Pair} {k : ℕ} {l : List Pair} → Chain rule s (A at p) W u k l → held (length s) W u ≡ noLink → After rule s (A at p) l next → Visits rule s [] (A at p) next
+        done : {u : Pair} {k : ℕ} {l : List Pair} → Chain rule s (A at p) W u k l → numberOf (length s) W u ≡ noLink → After rule s (A at p) l next → Visits rule s [] (A at p) next
         done (asked a e) n f = f
         done (called {z = z} a e h b) n f =
             absurd (link-some v (length s) z (known-within v (r .lines .ready .closed) (r .lines .ready .within) (chain-known b)) (sym e ∙ n))
 
         -- The line of the asked pair is the last.
-        pub goes-end : {count : ℕ} → held (length s) W (pairAt y) ≡ noLink → count ≡ y .lines + 1 → WriteEnds rule s v (A at p) U W′ out₀ out′ count
+        pub goes-end : {count : ℕ} → numberOf (length s) W (pairAt y) ≡ noLink → count ≡ y .lines + 1 → WriteEnds rule s v (A at p) U W′ out₀ out′ count
         goes-end e q = record {
           beyond = next-later;
           size = next-size;

@@ -17,13 +17,13 @@ use Rattle.grammar.specs.Rule.{Rule}
 use Rattle.schema.specs.Closed.{Closed}
 use Rattle.schema.specs.Derivation.{Pair, _at_, Result, result, Has}
 use Rattle.schema.specs.Line.{Line, lineOf, Stands}
-use Rattle.schema.specs.Table.{cell, cells, held}
+use Rattle.schema.specs.Table.{cell}
 use Rattle.schema.proofs.Answer.{reached-cell}
 use Rattle.schema.proofs.Cell.{PairWithin, cell-one}
 use Rattle.schema.proofs.Laws.{has-one}
 use Rattle.walk.specs.Walk.{packed}
 use Rattle.writer.specs.Writer.{Unwritten}
-use Rattle.writer.specs.Writing.{link, noLink}
+use Rattle.writer.specs.Writing.{numberOf, link, noLink}
 use Rattle.writer.proofs.Known.{Known, apart}
 use Rattle.writer.proofs.Lines.{stands-before, stands-last, stands-cases}
 use Rattle.writer.proofs.Visiting.{Alike}
@@ -96,12 +96,12 @@ known-within {rule} {s} {x} v closed within a = reached-cell rule s v closed x w
 
 -- The work slice links y, derived in k steps, to its callers, the latest first, back to the asked pair x.
 pub data Chain (rule : ℕ → Rule) (s : List ℕ) (x : Pair) (W : List ℕ) : Pair → ℕ → List Pair → Type 0 where
-  asked : {y : Pair} {k : ℕ} → Known rule s x y k → held (length s) W y ≡ noLink → Chain rule s x W y k []
-  called : {y z : Pair} {k j : ℕ} {l : List Pair} → Known rule s x y k → held (length s) W y ≡ link z → k < j → Chain rule s x W z j l
+  asked : {y : Pair} {k : ℕ} → Known rule s x y k → numberOf (length s) W y ≡ noLink → Chain rule s x W y k []
+  called : {y z : Pair} {k j : ℕ} {l : List Pair} → Known rule s x y k → numberOf (length s) W y ≡ link z → k < j → Chain rule s x W z j l
       → Chain rule s x W y k (z ∷ l)
 
 unmoved : {rule : ℕ → Rule} {s : List ℕ} {x y z : Pair} {i k : ℕ} (v : ℕ) → Closed v rule → PairWithin v (length s) x → (W : List ℕ) (m : ℕ) → Known rule s x z i → Known rule s x y k → i < k
-    → held (length s) (set W (cell (length s) z) m) y ≡ held (length s) W y
+    → numberOf (length s) (set W (cell (length s) z) m) y ≡ numberOf (length s) W y
 unmoved {s = s} {y = y} {z = z} v closed w W m a b h =
     getD-set-other W (cell (length s) z) (cell (length s) y) m 0
     (λ e. apart a b h (cell-one v (length s) z y (known-within v closed w a) (known-within v closed w b) (sym e)))
@@ -112,7 +112,7 @@ module _ {rule : ℕ → Rule} {s : List ℕ} {x : Pair} {W : List ℕ} where
   chain-known (called a e h c) = a
 
   -- What it holds for y is a link.
-  pub chain-odd : {y : Pair} {k : ℕ} {l : List Pair} → Chain rule s x W y k l → (j : ℕ) × (held (length s) W y ≡ 2 * j + 1)
+  pub chain-odd : {y : Pair} {k : ℕ} {l : List Pair} → Chain rule s x W y k l → (j : ℕ) × (numberOf (length s) W y ≡ 2 * j + 1)
   chain-odd (asked a e) = (0, e)
   chain-odd (called {z = z} a e h c) = (packed z, e)
 
@@ -140,13 +140,13 @@ link-pair v n m (A at p) l w e = let h = w .place in ap₂ _at_ (omega arith) (o
 pub record HasLine (n : ℕ) (W : List ℕ) (ls : List Line) (z : Pair) : Type 0 where
   pub number : ℕ
   pub result : Result
-  pub held-is : held n W z ≡ 2 * number
+  pub held-is : numberOf n W z ≡ 2 * number
   pub stands : Stands ls number z result
 
 -- Each cell holds 0, or its pair is on the way, or has a line; and every line is held.
 pub record Noted (rule : ℕ → Rule) (s : List ℕ) (v : ℕ) (W : List ℕ) (ls : List Line) (way : List Pair) : Type 0 where
-  pub marks : (z : Pair) → PairWithin v (length s) z → (held (length s) W z ≡ 0) ⊎ (In z way ⊎ HasLine (length s) W ls z)
-  pub only : (z : Pair) (r : Result) (i : ℕ) → Stands ls i z r → PairWithin v (length s) z × (held (length s) W z ≡ 2 * i) × Has rule s z (result r)
+  pub marks : (z : Pair) → PairWithin v (length s) z → (numberOf (length s) W z ≡ 0) ⊎ (In z way ⊎ HasLine (length s) W ls z)
+  pub only : (z : Pair) (r : Result) (i : ℕ) → Stands ls i z r → PairWithin v (length s) z × (numberOf (length s) W z ≡ 2 * i) × Has rule s z (result r)
 
 stands-positive : {ls : List Line} {z : Pair} {r : Result} (i : ℕ) → Stands ls i z r → i ≢ 0
 stands-positive zero h e = let k = h .line in clash (cc)
@@ -164,18 +164,18 @@ module _ {rule : ℕ → Rule} {s : List ℕ} {v : ℕ} {W : List ℕ} {ls : Lis
       (omega arith, cc)
 
   -- A pair with a link has none.
-  pub unwritten : (j : ℕ) → held (length s) W y ≡ 2 * j + 1 → Unwritten ls y
+  pub unwritten : (j : ℕ) → numberOf (length s) W y ≡ 2 * j + 1 → Unwritten ls y
   unwritten j e i r h = let a = g .only y r i h .1 in omega arith
 
   -- A pair that is not on the way, and for which the work slice holds a number, has one.
-  pub lined : (z : Pair) → PairWithin v (length s) z → held (length s) W z ≢ 0 → ¬ In z (y ∷ way) → HasLine (length s) W ls z
+  pub lined : (z : Pair) → PairWithin v (length s) z → numberOf (length s) W z ≢ 0 → ¬ In z (y ∷ way) → HasLine (length s) W ls z
   lined z i d n = elim (g .marks z i) [ inl e ↦ absurd (d e) | inr m ↦ elim m [ inl k ↦ absurd (n k) | inr h ↦ h ] ]
 
   module _ (z : Pair) (m : ℕ) (i : PairWithin v (length s) z) (below : cell (length s) z < length W) where
-    other : (u : Pair) → cell (length s) u ≢ cell (length s) z → held (length s) (set W (cell (length s) z) m) u ≡ held (length s) W u
+    other : (u : Pair) → cell (length s) u ≢ cell (length s) z → numberOf (length s) (set W (cell (length s) z) m) u ≡ numberOf (length s) W u
     other u d = getD-set-other W (cell (length s) z) (cell (length s) u) m 0 d
 
-    same : held (length s) (set W (cell (length s) z) m) z ≡ m
+    same : numberOf (length s) (set W (cell (length s) z) m) z ≡ m
     same = getD-set-same W (cell (length s) z) m 0 below
 
     moved : (more : List Line) (u : Pair) → cell (length s) u ≢ cell (length s) z → HasLine (length s) W ls u
@@ -183,7 +183,7 @@ module _ {rule : ℕ → Rule} {s : List ℕ} {v : ℕ} {W : List ℕ} {ls : Lis
     moved more u d h = record { number = h .number; result = h .result; held-is = other u d ∙ h .held-is; stands = stands-before more (h .stands) }
 
     -- A called pair is linked: it is on the way.
-    pub noted-down : held (length s) W z ≡ 0 → Noted rule s v (set W (cell (length s) z) m) ls (z ∷ y ∷ way)
+    pub noted-down : numberOf (length s) W z ≡ 0 → Noted rule s v (set W (cell (length s) z) m) ls (z ∷ y ∷ way)
     noted-down blank = record {
       marks = λ u j. elim (ℕ-discrete (cell (length s) u) (cell (length s) z)) [
         | yes e ↦ inr (inl (inl (cell-one v (length s) u z j i e)))
@@ -204,7 +204,7 @@ module _ {rule : ℕ → Rule} {s : List ℕ} {v : ℕ} {W : List ℕ} {ls : Lis
 
 -- The pair at the end of the way has its line, the last one.
 module _ {rule : ℕ → Rule} {s : List ℕ} {v : ℕ} {W : List ℕ} {ls : List Line} {y : Pair} {way : List Pair} (g : Noted rule s v W ls (y ∷ way))
-    (j : ℕ) (odd : held (length s) W y ≡ 2 * j + 1) (i : PairWithin v (length s) y) (below : cell (length s) y < length W) (r : Result) (has : Has rule s y (result r))
+    (j : ℕ) (odd : numberOf (length s) W y ≡ 2 * j + 1) (i : PairWithin v (length s) y) (below : cell (length s) y < length W) (r : Result) (has : Has rule s y (result r))
     (a b m : ℕ) (number : m ≡ 2 * (length ls + 1)) where
   pub noted-line : Noted rule s v (set W (cell (length s) y) m) (ls ++ lineOf y r a b ∷ []) way
   noted-line = record {
@@ -233,7 +233,7 @@ module _ {rule : ℕ → Rule} {s : List ℕ} {v : ℕ} {W : List ℕ} {ls : Lis
       | inr o ↦
           let n = o .0 in (
             subst (PairWithin v (length s)) (o .1) i,
-            subst (λ (z : Pair). held (length s) (set W (cell (length s) y) m) z ≡ 2 * k) (o .1) (same g y m i below ∙ number ∙ omega arith),
+            subst (λ (z : Pair). numberOf (length s) (set W (cell (length s) y) m) z ≡ 2 * k) (o .1) (same g y m i below ∙ number ∙ omega arith),
             subst (λ (z : Pair). Has rule s z (result t)) (o .1) (subst (λ (q : Result). Has rule s y (result q)) (o .2) has),
           )
     ];

@@ -23,7 +23,7 @@ use Rattle.walk.specs.Walk.{Settled, first-called, second-called}
 use Rattle.walk.proofs.Marks.{code-of}
 use Rattle.walk.proofs.Numbers.{cells-small}
 use Rattle.walk.proofs.Through.{called-within}
-use Rattle.writer.specs.Writing.{CallsReady, TurnsSecond, TurnsCalls, Lower, to-first, to-second, of-calls, Turns, TurnReady, StepReady, pairAt}
+use Rattle.writer.specs.Writing.{numberOf, CallsReady, TurnsSecond, TurnsCalls, Lower, to-first, to-second, of-calls, Turns, TurnReady, StepReady, pairAt}
 use Rattle.writer.specs.declared.Place.{Place}
 use Rattle.writer.specs.declared.Turn.{Turn}
 use Rattle.writer.specs.declared.Turn.the-variants as turn
@@ -76,11 +76,11 @@ module _ {n p b c d : ℕ} {T W : List ℕ} (r : CallsReady n p b c d T W) where
     after-success q failure m = absurd (q (sym found ∙ m .code-is))
 
 -- The first called pair has a line, and the second is looked at.
-pub then-second : (n : ℕ) (W : List ℕ) (y z u : Pair) (number : ℕ) (r : Turn) → number ≡ held n W y → number ≢ 0 → z ≡ u → TurnsSecond n W number u r
+pub then-second : (n : ℕ) (W : List ℕ) (y z u : Pair) (number : ℕ) (r : Turn) → number ≡ numberOf n W y → number ≢ 0 → z ≡ u → TurnsSecond n W number u r
     → TurnsCalls n W y z r
-then-second n W y z u number (turn.Down B q) e d s h = inr (λ k. d (e ∙ k), s ∙ h .0, ap (held n W) s ∙ h .1)
+then-second n W y z u number (turn.Down B q) e d s h = inr (λ k. d (e ∙ k), s ∙ h .0, ap (numberOf n W) s ∙ h .1)
 then-second n W y z u number (turn.Line i j) e d s h =
-    (λ k. d (e ∙ k), λ k. h .0 (ap (held n W) (sym s) ∙ k), h .1 ∙ ap (λ (m : ℕ). m / 2) e, h .2 ∙ ap (λ (x : Pair). held n W x / 2) (sym s))
+    (λ k. d (e ∙ k), λ k. h .0 (ap (numberOf n W) (sym s) ∙ k), h .1 ∙ ap (λ (m : ℕ). m / 2) e, h .2 ∙ ap (λ (x : Pair). numberOf n W x / 2) (sym s))
 
 module _ {rule : ℕ → Rule} {s : List ℕ} {v A p : ℕ} {T W : List ℕ} (q : TurnReady rule s v A p T W) where
   module _ {B C D : ℕ} (e : act rule s (A at p) ≡ calls B C D) where

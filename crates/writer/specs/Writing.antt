@@ -23,7 +23,11 @@ use Rattle.writer.specs.declared.Turn.the-variants as turn
 use Rattle.writer.specs.declared.Step.{Step}
 use Rattle.writer.specs.declared.Step.the-variants as step
 
--- The number that the work slice holds for a pair called by x, and for the asked pair, which none called.
+-- The number that the work slice W holds for a pair, on n bytes.
+abbrev pub numberOf : ℕ → List ℕ → Pair → ℕ
+numberOf n W y = getD W (cell n y) 0
+
+-- The number that it holds for a pair called by x, and for the asked pair, which none called.
 abbrev pub link : Pair → ℕ
 link x = 2 * packed x + 1
 
@@ -48,26 +52,26 @@ pub record CallsReady (n p b c d : ℕ) (T W : List ℕ) : Type 0 where
 
 -- The second called pair, z, is next if it has no line; else the caller's own line, with the numbers of both.
 abbrev pub TurnsSecond : ℕ → List ℕ → ℕ → Pair → Turn → Type 0
-TurnsSecond n W number z (turn.Down B q) = (z ≡ B at q) × (held n W z ≡ 0)
-TurnsSecond n W number z (turn.Line i j) = (held n W z ≢ 0) × (i ≡ number / 2) × (j ≡ held n W z / 2)
+TurnsSecond n W number z (turn.Down B q) = (z ≡ B at q) × (numberOf n W z ≡ 0)
+TurnsSecond n W number z (turn.Line i j) = (numberOf n W z ≢ 0) × (i ≡ number / 2) × (j ≡ numberOf n W z / 2)
 
 -- The same from the first called pair on, y.
 abbrev pub TurnsCalls : ℕ → List ℕ → Pair → Pair → Turn → Type 0
-TurnsCalls n W y z (turn.Down B q) = ((y ≡ B at q) × (held n W y ≡ 0)) ⊎ ((held n W y ≢ 0) × (z ≡ B at q) × (held n W z ≡ 0))
-TurnsCalls n W y z (turn.Line i j) = (held n W y ≢ 0) × (held n W z ≢ 0) × (i ≡ held n W y / 2) × (j ≡ held n W z / 2)
+TurnsCalls n W y z (turn.Down B q) = ((y ≡ B at q) × (numberOf n W y ≡ 0)) ⊎ ((numberOf n W y ≢ 0) × (z ≡ B at q) × (numberOf n W z ≡ 0))
+TurnsCalls n W y z (turn.Line i j) = (numberOf n W y ≢ 0) × (numberOf n W z ≢ 0) × (i ≡ numberOf n W y / 2) × (j ≡ numberOf n W z / 2)
 
 -- y is called by x and has no line.
 pub data Lower (rule : ℕ → Rule) (s T W : List ℕ) : Pair → Pair → Type 0 where
-  to-first : {A B C D p : ℕ} → act rule s (A at p) ≡ calls B C D → held (length s) W (B at p) ≡ 0 → Lower rule s T W (A at p) (B at p)
+  to-first : {A B C D p : ℕ} → act rule s (A at p) ≡ calls B C D → numberOf (length s) W (B at p) ≡ 0 → Lower rule s T W (A at p) (B at p)
   to-second : {A B C D p : ℕ} {t : Result} → act rule s (A at p) ≡ calls B C D → Settled (length s) (held (length s) T (B at p)) t
-      → held (length s) W (B at p) ≢ 0 → held (length s) W (second C D p t) ≡ 0 → Lower rule s T W (A at p) (second C D p t)
+      → numberOf (length s) W (B at p) ≢ 0 → numberOf (length s) W (second C D p t) ≡ 0 → Lower rule s T W (A at p) (second C D p t)
 
 -- What x calls has lines, i and j; "both 0 for a leaf".
 pub data Own (rule : ℕ → Rule) (s T W : List ℕ) : Pair → ℕ → ℕ → Type 0 where
   of-leaf : {x : Pair} → ((B C D : ℕ) → act rule s x ≢ calls B C D) → Own rule s T W x 0 0
   of-calls : {A B C D p : ℕ} {t : Result} → act rule s (A at p) ≡ calls B C D → Settled (length s) (held (length s) T (B at p)) t
-      → held (length s) W (B at p) ≢ 0 → held (length s) W (second C D p t) ≢ 0
-      → Own rule s T W (A at p) (held (length s) W (B at p) / 2) (held (length s) W (second C D p t) / 2)
+      → numberOf (length s) W (B at p) ≢ 0 → numberOf (length s) W (second C D p t) ≢ 0
+      → Own rule s T W (A at p) (numberOf (length s) W (B at p) / 2) (numberOf (length s) W (second C D p t) / 2)
 
 -- What is next at x.
 abbrev pub Turns : (ℕ → Rule) → List ℕ → List ℕ → List ℕ → Pair → Turn → Type 0
@@ -116,16 +120,16 @@ pub record Lays (rule : ℕ → Rule) (s T W out W′ out′ : List ℕ) (x : Pl
 
 -- The pair of its link is next.
 pub record Returns (s W : List ℕ) (x y : Place) : Type 0 where
-  pub linked : held (length s) W (pairAt x) ≢ noLink
-  pub variable-is : y .variable ≡ held (length s) W (pairAt x) / 16384
-  pub position-is : y .position ≡ held (length s) W (pairAt x) / 2 % 8192
+  pub linked : numberOf (length s) W (pairAt x) ≢ noLink
+  pub variable-is : y .variable ≡ numberOf (length s) W (pairAt x) / 16384
+  pub position-is : y .position ≡ numberOf (length s) W (pairAt x) / 2 % 8192
   pub lines-are : y .lines ≡ x .lines + 1
 
 -- One step from x.
 abbrev pub Steps : (ℕ → Rule) → List ℕ → List ℕ → List ℕ → List ℕ → List ℕ → List ℕ → Place → Step → Type 0
 Steps rule s T W out W′ out′ x (step.On y) = Descends rule s T W out W′ out′ x y ⊎ (Lays rule s T W out W′ out′ x × Returns s W x y)
 Steps rule s T W out W′ out′ x (step.Ended count) =
-    Lays rule s T W out W′ out′ x × (held (length s) W (pairAt x) ≡ noLink) × (count ≡ x .lines + 1)
+    Lays rule s T W out W′ out′ x × (numberOf (length s) W (pairAt x) ≡ noLink) × (count ≡ x .lines + 1)
 
 -- ---- The walk.
 
@@ -144,7 +148,7 @@ pub record LinesReady (rule : ℕ → Rule) (s : List ℕ) (v A p : ℕ) (T W ou
 -- The asked pair is the only one with a link, which says that none called it.
 pub record WriteReady (rule : ℕ → Rule) (s : List ℕ) (v A p : ℕ) (T W out : List ℕ) : Type 0 where
   pub lines : LinesReady rule s v A p T W out
-  pub root : held (length s) W (A at p) ≡ noLink
+  pub root : numberOf (length s) W (A at p) ≡ noLink
   pub others : (i : ℕ) → i < cells v (length s) → i ≢ cell (length s) (A at p) → getD W i 0 ≡ 0
 
 -- The lines are written, and the work slice is as it was beyond its cells.

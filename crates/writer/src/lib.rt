@@ -13,7 +13,7 @@ ghost use Rattle.schema.specs.Table.{cell, held, cells};
 ghost use Rattle.walk.specs.Reply.{told, Code};
 ghost use Rattle.walk.specs.Walk.{Settled, resultOf};
 ghost use Rattle.writer.specs.Writer.{SaysWriting, WriterPromise};
-ghost use Rattle.writer.specs.Writing.{link, TurnsSecond, CallsReady, TurnsCalls, TurnReady, Turns, StepReady, Steps, LinesReady, WriteReady, WriteEnds, AskWriteReady, hasResult};
+ghost use Rattle.writer.specs.Writing.{numberOf, link, TurnsSecond, CallsReady, TurnsCalls, TurnReady, Turns, StepReady, Steps, LinesReady, WriteReady, WriteEnds, AskWriteReady, hasResult};
 use columns::write_field;
 use grammar::sheet::Rules;
 use grammar::sheet::Sheet;
@@ -57,7 +57,7 @@ pub struct Written {
 // The number that the work slice holds for a pair.
 fn number_at(n: usize, work: &[u32], variable: u32, position: u32) -> u32
     requires { ⌜ (1 ≤ variable) × (variable ≤ 256) × (n ≤ 4096) × (position ≤ n) × (cell n (variable at position) < length (now work)) ⌝ }
-    ensures { λ r. ⌜ r ≡ held n (now (work .entry)) (variable at position) ⌝ }
+    ensures { λ r. ⌜ r ≡ numberOf n (now (work .entry)) (variable at position) ⌝ }
 {
     work[cell_number(n, variable, position)]
 }
@@ -189,7 +189,7 @@ fn link_down(n: usize, work: &mut [u32], x: Place, variable: u32, position: u32)
 fn note_line(n: usize, work: &mut [u32], x: Place) -> u32
     requires { ⌜ (1 ≤ x .variable) × (x .variable ≤ 256) × (n ≤ 4096) × (x .position ≤ n) × (cell n (x .variable at x .position) < length (now work)) × (x .lines < 1048832) ⌝ }
     ensures stores { λ _. ⌜ now (work .exit) ≡ set (now (work .entry)) (cell n (x .variable at x .position)) (2 * (x .lines + 1)) ⌝ }
-    ensures returns { λ r. ⌜ r ≡ held n (now (work .entry)) (x .variable at x .position) ⌝ }
+    ensures returns { λ r. ⌜ r ≡ numberOf n (now (work .entry)) (x .variable at x .position) ⌝ }
 {
     let index = cell_number(n, x.variable, x.position);
     let caller = work[index];

@@ -1,8 +1,6 @@
-use mathlib.Core.Path.{refl, sym, ap, _∙_}
-use mathlib.Core.List.{[], _∷_}
-use borrow.Author.Tests.{lt-ltb, le-ltb, le-leb, lt-leb}
+use mathlib.Core.Path.{refl, sym}
+use borrow.Author.Tests.{lt-ltb, le-ltb}
 use Rattle.grammar.specs.Sheet.{sheet}
-use Rattle.grammar.specs.Promise.{told}
 use Rattle.grammar.proofs.Told.{told-refused, told-read, line-says}
 use Rattle.grammar.proofs.Fitting.{within-low, within-high, within-both}
 use Rattle.rules.proofs.Admitted.{admits}

@@ -3,9 +3,11 @@ use mathlib.Core.Path.{refl, sym, ap, _∙_, subst}
 use mathlib.Core.Logic.{inl, inr}
 use Prim.Native.Nat.{ℕ, _<_}
 use native.Mathlib.Omega.{arith}
-use lib.ListN.{length, set, length-set}
+use lib.ListN.{length}
 use Rattle.grammar.specs.Words.{ruleIn}
 use Rattle.rules.specs.Act.{told}
+use Rattle.schema.specs.Cells.{stored}
+use Rattle.schema.proofs.Cells.{stored-length}
 use Rattle.schema.specs.Derivation.{success, failure}
 use Rattle.walk.specs.Step.{leaf-settled}
 use Rattle.walk.proofs.Looking.{failure-settled, leaf-end}
@@ -45,7 +47,7 @@ store-requires c κs =
     subst (λ (i : ℕ). i < length (c .before .before .before .before .before .before .before .before .before .before .args .table .now)) (sym (c .cell-number .ensures)) (b .called-cell)
 
 resume-requires : tie.Need-resume-requires
-resume-requires c κs = resume-ready (c .before .before .before .before .before .before .before .before .before .before .before .before .before .before .before .pre .0) _ (ap length (c .before .before .before .before .store .ensures) ∙ length-set (c .before .before .before .before .before .before .before .before .before .before .before .before .before .before .before .args .table .now) _ _) _ (inr (omega (arith, c .before .before .before .before .before .before .before .success .ensures)))
+resume-requires c κs = resume-ready (c .before .before .before .before .before .before .before .before .before .before .before .before .before .before .before .pre .0) _ (ap length (c .before .before .before .before .store .ensures) ∙ stored-length (c .before .before .before .before .before .before .before .before .before .before .before .before .before .before .before .args .table .now) _ _) _ (inr (omega (arith, c .before .before .before .before .before .before .before .success .ensures)))
 
 enum-told : tie.Need-enum-told
 enum-told c = search needs
@@ -62,7 +64,7 @@ store-requires-2 c κs =
     subst (λ (i : ℕ). i < length (c .before .before .before .before .before .before .before .before .args .table .now)) (sym (c .cell-number2 .ensures)) (b .called-cell)
 
 resume-requires-2 : tie.Need-resume-requires-2
-resume-requires-2 c κs = resume-ready (c .before .before .before .before .before .before .before .before .before .before .before .before .before .pre .0) _ (ap length (c .before .before .before .before .store2 .ensures) ∙ length-set (c .before .before .before .before .before .before .before .before .before .before .before .before .before .args .table .now) _ _) _ (inl refl)
+resume-requires-2 c κs = resume-ready (c .before .before .before .before .before .before .before .before .before .before .before .before .before .pre .0) _ (ap length (c .before .before .before .before .store2 .ensures) ∙ stored-length (c .before .before .before .before .before .before .before .before .before .before .before .before .before .args .table .now) _ _) _ (inl refl)
 
 enum-known-b : tie.Need-enum-known-b
 enum-known-b c = search needs
@@ -114,7 +116,7 @@ returns c =
     let e = sym (c .before .before .before .before .before .before .before .before .before .before .before .before .before .before .act-at .ensures) ∙ ap told (c .before .before .before .before .before .before .before .before .before .before .before .before .end .given .1) in
     let q = leaf-end (ruleIn (a .rules .now)) (a .input .now) (a .x .called) (a .x .place) _ (b .called-in .place) e in
     let m : Settled (length (a .input .now)) (c .before .before .before .before .before .before .before .before .before .before .success .result .0) (success (c .before .before .before .before .before .before .before .before .before .before .before .before .end .given .0 .0)) = record { code-is = c .before .before .before .before .before .before .before .before .before .before .success .ensures; ends = q } in
-    let t = c .before .before .before .before .before .before .before .store .ensures ∙ ap (λ (i : ℕ). set (a .table .now) i (c .before .before .before .before .before .before .before .before .before .before .success .result .0)) (c .before .before .before .before .before .before .before .before .cell-number .ensures) in
+    let t = c .before .before .before .before .before .before .before .store .ensures ∙ ap (λ (i : ℕ). stored (a .table .now) i (c .before .before .before .before .before .before .before .before .before .before .success .result .0)) (c .before .before .before .before .before .before .before .before .cell-number .ensures) in
     steps-resume (ruleIn (a .rules .now)) (a .input .now) (a .table .now) (a .work .now) (a .x) (c .before .before .before .before .before .before .before .before .before .before .success .result) {r = success (c .before .before .before .before .before .before .before .before .before .before .before .before .end .given .0 .0)} m (rw t (leaf-settled (c .before .before .before .before .before .before .before .before .before .before .before .before .before .before .before .before .before .before .pre .1) e m)) (r .called) (b .called-cell) (c .before .before .resume .result) (c .before .before .resume .ensures)
 
 same-length-3 : tie.Need-same-length-3
@@ -130,7 +132,7 @@ returns-2 c =
     let b = step-bounds r in
     let e = sym (c .before .before .before .before .before .before .before .before .before .before .before .before .act-at .ensures) ∙ ap told (c .before .before .before .before .before .before .before .before .before .before .enum-told .given .1) in
     let m = failure-settled (length (a .input .now)) 1 refl in
-    let t = c .before .before .before .before .before .before .before .store2 .ensures ∙ ap (λ (i : ℕ). set (a .table .now) i 1) (c .before .before .before .before .before .before .before .before .cell-number2 .ensures) in
+    let t = c .before .before .before .before .before .before .before .store2 .ensures ∙ ap (λ (i : ℕ). stored (a .table .now) i 1) (c .before .before .before .before .before .before .before .before .cell-number2 .ensures) in
     steps-resume (ruleIn (a .rules .now)) (a .input .now) (a .table .now) (a .work .now) (a .x) _ {r = failure} m (rw t (leaf-settled (c .before .before .before .before .before .before .before .before .before .before .before .before .before .before .before .before .pre .1) e m)) (r .called) (b .called-cell) (c .before .before .resume2 .result) (c .before .before .resume2 .ensures)
 
 same-length-5 : tie.Need-same-length-5

@@ -2,7 +2,7 @@ use mathlib.Core.Path.{_≡_, ap, _∙_}
 use mathlib.Core.List.{_++_}
 use Prim.Native.Nat.{_≤_, _<_, _-_}
 use native.Mathlib.Omega.{arith}
-use lib.ListN.{length, replicate, drop, length-set}
+use lib.ListN.{length, replicate, drop}
 use borrow.Author.Fill.{fill-more}
 use borrow.Author.Needs.{needs}
 use Rattle.walk.proofs.blank.Statement.{statement}
@@ -10,6 +10,8 @@ use Rattle.walk.proofs.blank.Tie as tie
 use Rattle.walk.proofs.blank.Reads as reads
 use Rattle.walk.proofs.blank.Lts as lts
 use Rattle.walk.proofs.Cell.store.Reads as store-reads
+use Rattle.schema.specs.Cells.{stored}
+use Rattle.schema.proofs.Cells.{stored-length}
 
 abbrev Inv-loop : tie.InvT-loop
 Inv-loop table₀ size i₀ table i = (i ≤ size) × (length table ≡ length table₀) × (table ≡ replicate i 0 ++ drop i table₀)
@@ -39,7 +41,7 @@ loop-again c =
     let stored = c .before .before .store .ensures in
     let inv = c .before .before .before .before .before .loop .inv in
     let l : c .before .before .before .before .before .loop .i < length (c .before .before .before .before .before .before .before .args .table .now) = omega arith in
-    (omega arith, ap length stored ∙ length-set (c .before .before .before .before .before .loop .table) (c .before .before .before .before .before .loop .i) 0 ∙ inv .1, stored ∙ rw (inv .2) (fill-more _ 0 _ l))
+    (omega arith, ap length stored ∙ stored-length (c .before .before .before .before .before .loop .table) (c .before .before .before .before .before .loop .i) 0 ∙ inv .1, stored ∙ rw (inv .2) (fill-more _ 0 _ l))
 
 -- src/lib.rt:217:1
 same-length : tie.Need-same-length Inv-loop μ-loop

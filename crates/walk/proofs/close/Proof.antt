@@ -1,9 +1,10 @@
 use mathlib.Core.Path.{_≡_, sym, ap, _∙_, subst}
 use Prim.Native.Nat.{ℕ, suc, _<_, _-_}
 use native.Mathlib.Omega.{arith}
-use lib.ListN.{length, set, length-set}
-use Rattle.calls.proofs.Links.{view}
+use lib.ListN.{length}
 use Rattle.calls.proofs.Table.{weight}
+use Rattle.schema.specs.Cells.{stored}
+use Rattle.schema.proofs.Cells.{stored-length, view}
 use Rattle.schema.specs.Table.{cells}
 use Rattle.walk.proofs.Closing.{openOr, Closing, begins, top-within, top-in, close-falls, closes, goes-on}
 use Rattle.walk.proofs.close.Statement.{statement}
@@ -30,13 +31,13 @@ store-requires : tie.Need-store-requires Inv-loop μ-loop
 store-requires c κs = subst (λ (k : ℕ). k < length (c .before .before .loop .table)) (sym (c .cell-number .ensures)) (top-in (c .before .before .before .before .before .pre) (c .before .before .loop .inv))
 
 same-length : tie.Need-same-length Inv-loop μ-loop
-same-length c = ap length (c .before .before .before .store .ensures) ∙ simp length-set (c .before .before .before .before .before .before .loop .inv .size)
+same-length c = ap length (c .before .before .before .store .ensures) ∙ simp stored-length (c .before .before .before .before .before .before .loop .inv .size)
 
 returns : tie.Need-returns Inv-loop μ-loop
 returns c =
     let L = c .before .before .before .before .before .before .loop in
     let a = c .before .before .before .before .before .before .before .before .before .args in
-    rw (c .before .before .before .store .ensures ∙ ap (λ (k : ℕ). set (L .table) k (a .outcome .0)) (c .before .before .before .before .cell-number .ensures)) (closes (c .before .before .before .before .before .before .before .before .before .pre) (L .inv) (c .if1 .taken))
+    rw (c .before .before .before .store .ensures ∙ ap (λ (k : ℕ). stored (L .table) k (a .outcome .0)) (c .before .before .before .before .cell-number .ensures)) (closes (c .before .before .before .before .before .before .before .before .before .pre) (L .inv) (c .if1 .taken))
 
 sub-left : tie.Need-sub-left Inv-loop μ-loop
 sub-left c = omega (arith, c .if1 .left)
@@ -61,14 +62,14 @@ loop-less : tie.Need-loop-less Inv-loop μ-loop
 loop-less c =
     let L = c .before .before .before .before .before .before .before .loop in
     let a = c .before .before .before .before .before .before .before .before .before .before .args in
-    rw (c .before .before .before .before .store .ensures ∙ ap (λ (k : ℕ). set (L .table) k (a .outcome .0)) (c .before .before .before .before .before .cell-number .ensures)) (close-falls (c .before .before .before .before .before .before .before .before .before .before .pre) (L .inv))
+    rw (c .before .before .before .before .store .ensures ∙ ap (λ (k : ℕ). stored (L .table) k (a .outcome .0)) (c .before .before .before .before .before .cell-number .ensures)) (close-falls (c .before .before .before .before .before .before .before .before .before .before .pre) (L .inv))
 
 loop-again : tie.Need-loop-again Inv-loop μ-loop
 loop-again c =
     let L = c .before .before .before .before .before .before .before .loop in
     let a = c .before .before .before .before .before .before .before .before .before .before .args in
     let under : L .left ≡ suc (L .left - 1) = omega (arith, c .before .if1 .left) in
-    rw (c .before .before .before .before .store .ensures ∙ ap (λ (k : ℕ). set (L .table) k (a .outcome .0)) (c .before .before .before .before .before .cell-number .ensures)) (goes-on (c .before .before .before .before .before .before .before .before .before .before .pre) (L .inv) (L .left - 1) under)
+    rw (c .before .before .before .before .store .ensures ∙ ap (λ (k : ℕ). stored (L .table) k (a .outcome .0)) (c .before .before .before .before .before .cell-number .ensures)) (goes-on (c .before .before .before .before .before .before .before .before .before .before .pre) (L .inv) (L .left - 1) under)
 
 pub close-spec : {M : Type 1} → statement M
 close-spec =

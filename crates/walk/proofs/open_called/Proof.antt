@@ -1,10 +1,10 @@
 use mathlib.Core.Path.{ap, _∙_}
 use Prim.Native.Nat.{ℕ}
-use lib.ListN.{set}
 use Rattle.walk.specs.Walk.{openMark}
 use borrow.Author.Needs.{needs}
 use Rattle.walk.proofs.open_called.Statement.{statement}
 use Rattle.walk.proofs.open_called.Tie as tie
+use Rattle.schema.specs.Cells.{stored}
 
 cell-number-requires : tie.Need-cell-number-requires
 cell-number-requires c κs = search needs
@@ -30,7 +30,7 @@ same-length-2 c = search needs
 returns : tie.Need-returns
 returns c =
     let a = c .before .before .before .before .before .before .before .before .args in
-    (c .before .before .before .store .ensures ∙ ap (λ (i : ℕ). set (a .table .now) i openMark) (c .before .before .before .before .cell-number .ensures), ap (λ (k : ℕ). set (a .work .now) (a .x .depth) k) (c .entry-of .ensures))
+    (c .before .before .before .store .ensures ∙ ap (λ (i : ℕ). stored (a .table .now) i openMark) (c .before .before .before .before .cell-number .ensures), ap (λ (k : ℕ). stored (a .work .now) (a .x .depth) k) (c .entry-of .ensures))
 
 pub open-called-spec : {M : Type 1} → statement M
 open-called-spec =

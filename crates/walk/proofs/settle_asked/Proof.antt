@@ -1,9 +1,9 @@
 use mathlib.Core.Path.{refl, ap, _∙_}
 use Prim.Native.Nat.{ℕ}
-use lib.ListN.{set}
 use borrow.Author.Needs.{needs}
 use Rattle.walk.proofs.settle_asked.Statement.{statement}
 use Rattle.walk.proofs.settle_asked.Tie as tie
+use Rattle.schema.specs.Cells.{stored}
 
 cell-number-requires : tie.Need-cell-number-requires
 cell-number-requires c κs = search needs
@@ -17,7 +17,7 @@ same-length c = search needs
 returns : tie.Need-returns
 returns c =
     let a = c .before .before .before .before .before .before .args in
-    (c .before .before .store .ensures ∙ ap (λ (i : ℕ). set (a .table .now) i (a .leaf .0)) (c .before .before .before .cell-number .ensures), refl)
+    (c .before .before .store .ensures ∙ ap (λ (i : ℕ). stored (a .table .now) i (a .leaf .0)) (c .before .before .before .cell-number .ensures), refl)
 
 pub settle-asked-spec : {M : Type 1} → statement M
 settle-asked-spec = tie.close (tie.spec cell-number-requires store-requires same-length returns)

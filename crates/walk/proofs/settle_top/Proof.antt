@@ -1,10 +1,10 @@
 use mathlib.Core.Path.{refl, ap, _∙_}
 use Prim.Native.Nat.{ℕ}
 use native.Mathlib.Omega.{arith}
-use lib.ListN.{set}
 use borrow.Author.Needs.{needs}
 use Rattle.walk.proofs.settle_top.Statement.{statement}
 use Rattle.walk.proofs.settle_top.Tie as tie
+use Rattle.schema.specs.Cells.{stored}
 
 cell-number-requires : tie.Need-cell-number-requires
 cell-number-requires c κs = search needs
@@ -18,7 +18,7 @@ same-length c = search needs
 returns : tie.Need-returns
 returns c =
     let a = c .before .before .before .before .before .before .before .before .before .args in
-    (c .before .before .before .before .store .ensures ∙ ap (λ (i : ℕ). set (a .table .now) i (a .cell .0)) (c .before .before .before .before .before .cell-number .ensures), (refl, c .if1 .taken))
+    (c .before .before .before .before .store .ensures ∙ ap (λ (i : ℕ). stored (a .table .now) i (a .cell .0)) (c .before .before .before .before .before .cell-number .ensures), (refl, c .if1 .taken))
 
 sub-depth : tie.Need-sub-depth
 sub-depth c = search needs
@@ -40,7 +40,7 @@ returns-2 c =
     let a = c .before .before .before .before .before .before .before .before .before .before .before .before .args in
     let e = c .caller-of .ensures in
     let d = e .4 in
-    (c .before .before .before .before .before .before .before .store .ensures ∙ ap (λ (i : ℕ). set (a .table .now) i (a .cell .0)) (c .before .before .before .before .before .before .before .before .cell-number .ensures), record { depth-is = omega arith; variable-is = rw d (e .0); position-is = rw d (e .1); second-is = rw d (e .2); called-is = e .3 })
+    (c .before .before .before .before .before .before .before .store .ensures ∙ ap (λ (i : ℕ). stored (a .table .now) i (a .cell .0)) (c .before .before .before .before .before .before .before .before .cell-number .ensures), record { depth-is = omega arith; variable-is = rw d (e .0); position-is = rw d (e .1); second-is = rw d (e .2); called-is = e .3 })
 
 pub settle-top-spec : {M : Type 1} → statement M
 settle-top-spec =

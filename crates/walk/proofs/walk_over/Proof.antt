@@ -1,7 +1,7 @@
-use mathlib.Core.Path.{_≡_, sym, ap, _∙_, subst}
+use mathlib.Core.Path.{sym, ap, _∙_, subst}
 use Prim.Native.Nat.{ℕ, _<_}
 use native.Mathlib.Omega.{arith}
-use lib.ListN.{length, set}
+use lib.ListN.{length}
 use Rattle.walk.specs.Walk.{openMark}
 use Rattle.walk.proofs.Overs.{over-in, over-may-walk, over-may-finish, over-small, over-answer}
 use borrow.Author.Needs.{needs}
@@ -14,6 +14,7 @@ use Rattle.walk.proofs.cell_number.Reads as cell-number-reads
 use Rattle.walk.proofs.finish.Reads as finish-reads
 use Rattle.walk.proofs.newly.Reads as newly-reads
 use Rattle.walk.proofs.walk_from.Reads as walk-from-reads
+use Rattle.schema.specs.Cells.{stored}
 
 -- src/lib.rt:485:9
 newly-requires : tie.Need-newly-requires
@@ -38,14 +39,14 @@ walk-from-requires : tie.Need-walk-from-requires
 walk-from-requires c κs =
     let o = c .before .before .before .before in
     let st = c .before .before .before .before .before .before .before .before .before .before .before .before in
-    over-may-walk (st .pre .0) (st .pre .1) (o .store .ensures ∙ ap (λ (i : ℕ). set (st .args .table .now) i openMark) (o .before .cell-number .ensures))
+    over-may-walk (st .pre .0) (st .pre .1) (o .store .ensures ∙ ap (λ (i : ℕ). stored (st .args .table .now) i openMark) (o .before .cell-number .ensures))
 
 -- src/lib.rt:489:31
 add-finish : tie.Need-add-finish
 add-finish c =
     let o = c .before .before .before .before .before .before .before .before .before .before in
     let st = c .before .before .before .before .before .before .before .before .before .before .before .before .before .before .before .before .before .before in
-    let l = over-small (st .pre .0) (st .pre .1) (o .store .ensures ∙ ap (λ (i : ℕ). set (st .args .table .now) i openMark) (o .before .cell-number .ensures)) _ (c .before .before .before .before .before .walk-from .result .count) _ (c .before .before .before .before .before .walk-from .ensures .1) (c .before .before .before .before .before .before .before .before .before .before .before .before .before .newly .ensures) in
+    let l = over-small (st .pre .0) (st .pre .1) (o .store .ensures ∙ ap (λ (i : ℕ). stored (st .args .table .now) i openMark) (o .before .cell-number .ensures)) _ (c .before .before .before .before .before .walk-from .result .count) _ (c .before .before .before .before .before .walk-from .ensures .1) (c .before .before .before .before .before .before .before .before .before .before .before .before .before .newly .ensures) in
     omega arith
 
 -- src/lib.rt:489:5
@@ -54,7 +55,7 @@ finish-requires c κs =
     let w = c .before .before .before .before .before .before .before in
     let o = c .before .before .before .before .before .before .before .before .before .before .before .before in
     let st = c .before .before .before .before .before .before .before .before .before .before .before .before .before .before .before .before .before .before .before .before in
-    over-may-finish (st .pre .0) (st .pre .1) (o .store .ensures ∙ ap (λ (i : ℕ). set (st .args .table .now) i openMark) (o .before .cell-number .ensures)) (w .walk-from .result .end) (w .walk-from .ensures .0)
+    over-may-finish (st .pre .0) (st .pre .1) (o .store .ensures ∙ ap (λ (i : ℕ). stored (st .args .table .now) i openMark) (o .before .cell-number .ensures)) (w .walk-from .result .end) (w .walk-from .ensures .0)
 
 -- src/lib.rt:472:1
 same-length : tie.Need-same-length
@@ -70,7 +71,7 @@ returns c =
     let w = c .before .before .before .before .before .before .before .before .before .before in
     let o = c .before .before .before .before .before .before .before .before .before .before .before .before .before .before .before in
     let st = c .before .before .before .before .before .before .before .before .before .before .before .before .before .before .before .before .before .before .before .before .before .before .before in
-    over-answer (st .pre .0) (st .pre .1) (o .store .ensures ∙ ap (λ (i : ℕ). set (st .args .table .now) i openMark) (o .before .cell-number .ensures)) _ (w .walk-from .result .count) _ (w .walk-from .ensures .1) (c .before .before .before .before .before .before .before .before .before .before .before .before .before .before .before .before .before .before .newly .ensures) (c .before .before .finish .result) (w .walk-from .ensures .0) (c .before .before .finish .ensures)
+    over-answer (st .pre .0) (st .pre .1) (o .store .ensures ∙ ap (λ (i : ℕ). stored (st .args .table .now) i openMark) (o .before .cell-number .ensures)) _ (w .walk-from .result .count) _ (w .walk-from .ensures .1) (c .before .before .before .before .before .before .before .before .before .before .before .before .before .before .before .before .before .before .newly .ensures) (c .before .before .finish .result) (w .walk-from .ensures .0) (c .before .before .finish .ensures)
 
 pub walk-over-spec : {M : Type 1} → statement M
 walk-over-spec =
