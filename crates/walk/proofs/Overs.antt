@@ -10,9 +10,9 @@ use Rattle.grammar.specs.Refusal.{Checked, accepted}
 use Rattle.grammar.specs.Rule.{Rule}
 use Rattle.schema.specs.Cells.{heldAt, stored}
 use Rattle.schema.proofs.Cells.{stored-there, stored-elsewhere, stored-later, stored-length}
-use Rattle.schema.specs.Derivation.{Pair, _at_, Result, end, second, result, Has}
+use Rattle.schema.specs.Derivation.{Pair, _at_, Result, end, second, result, Has, success, failure}
 use Rattle.schema.specs.Reached.{Reached, itself, first-of, second-of}
-use Rattle.schema.specs.Table.{Within, cell, cells, decided, held, Holds, Table}
+use Rattle.schema.specs.Table.{Within, cell, cells, decided, held, Holds, Table, code}
 use Rattle.schema.proofs.Answer.{reached-cell}
 use Rattle.schema.proofs.Cell.{PairWithin, cell-below}
 use Rattle.schema.proofs.Codes.{code-full}
@@ -20,14 +20,26 @@ use Rattle.schema.proofs.Laws.{has-one}
 use Rattle.walk.specs.Reply.{Reply, reply, told}
 use Rattle.walk.specs.Finish.{FinishReady, Finishes}
 use Rattle.walk.specs.Over.{OverReady, Over}
-use Rattle.walk.specs.Walk.{openMark, Unsettled, Settled, Fits, fresh, Counts, before, RightTable, WalkReady, WalkEnds, HeldAt, TableMeans, outcomeOf, namedOf}
+use Rattle.walk.specs.Walk.{openMark, Unsettled, Ends, Settled, Fits, fresh, Counts, before, RightTable, WalkReady, WalkEnds, HeldAt, TableMeans, outcomeOf, namedOf, SettledCode}
 use Rattle.walk.specs.declared.Answer.{Answer}
 use Rattle.walk.specs.declared.Walk.{Walk}
 use Rattle.walk.specs.declared.Walk.the-variants as walk
 use Rattle.walk.proofs.Decided.{decided-stored, decided-most}
+use Rattle.walk.proofs.Ended.{result-is}
 use Rattle.walk.proofs.Finished.{close-ready, no-open, closes-counts}
 use Rattle.walk.proofs.Marks.{settled-not, settled-full, settled-closed, code-of}
 use Rattle.walk.proofs.Numbers.{cells-small}
+
+-- The code of a result, and of how a walk ended, is one of a cell.
+result-small : (n : ℕ) (r : Result) → Ends n r → code (result r) ≤ 5 + n
+result-small n (success q) e = omega arith
+result-small n failure e = omega arith
+
+ended-small : (n : ℕ) (end : Walk) → SettledCode n end → code (outcomeOf end) ≤ 5 + n
+ended-small n (walk.Settled c) s = rw (result-is n (c .0) (s .0) (s .1)) (result-small n (s .0) (s .1 .ends))
+ended-small n (walk.Loop A p B q d) s = omega arith
+ended-small n (walk.Missing A p d) s = omega arith
+ended-small n (walk.End A p d) s = omega arith
 
 -- The asked cell is in the table.
 pub over-in : {rule : ℕ → Rule} {s : List ℕ} {v A p : ℕ} {T W : List ℕ} → OverReady rule s v A p T W → cell (length s) (A at p) < length T
@@ -180,6 +192,7 @@ module _ {rule : ℕ → Rule} {s : List ℕ} {v A p : ℕ} {T W : List ℕ} (r 
         beyond = h .work-later;
         work-size = h .work-size;
         counts = counted;
+        small = ended-small (length s) end (h .settled-code);
         from-right = λ k.
             let g = h .table .means (right-start k) in
             record {
@@ -272,6 +285,7 @@ module _ {rule : ℕ → Rule} {s : List ℕ} {v A p : ℕ} {T W : List ℕ} (r 
     beyond = refl;
     work-size = refl;
     counts = omega arith;
+    small = result-small (length s) t (m .ends);
     from-right = λ k. record {
       outcome = result t;
       named = 0 at 0;

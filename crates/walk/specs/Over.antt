@@ -9,8 +9,8 @@ use Rattle.schema.specs.Cells.{heldAt}
 use Rattle.schema.specs.Closed.{Closed}
 use Rattle.schema.specs.Derivation.{Pair, Outcome, Has}
 use Rattle.schema.specs.Reached.{Named}
-use Rattle.schema.specs.Table.{Within, cells, decided, held, Table}
-use Rattle.walk.specs.Reply.{Reply, reply, countOf}
+use Rattle.schema.specs.Table.{Within, cells, code, decided, held, Table}
+use Rattle.walk.specs.Reply.{Reply, reply, outcomeOf, countOf}
 use Rattle.walk.specs.Walk.{Counts, RightTable}
 
 -- What asking over a table is handed: codes of at most 5 + n, whatever else they say.
@@ -32,7 +32,8 @@ pub record OverAnswers (rule : ℕ → Rule) (v : ℕ) (input : List ℕ) (x : P
   pub says : r ≡ reply outcome named (decided (take (cells v (length input)) table′) - decided (take (cells v (length input)) table))
   pub leaves : Table rule input v x (held (length input) table) table table′
 
--- From any table: a reply, whose count is of newly decided cells, and nothing changed beyond the first cells.
+-- From any table: a reply, whose count is of newly decided cells and whose outcome has a code of at most 5 + n, and nothing changed beyond the first
+-- cells.
 pub record Over (rule : ℕ → Rule) (v : ℕ) (input : List ℕ) (x : Pair) (table table′ work work′ : List ℕ) (r : Checked Reply) : Type 0 where
   pub replies : Reply
   pub accepts : r ≡ accepted replies
@@ -41,4 +42,5 @@ pub record Over (rule : ℕ → Rule) (v : ℕ) (input : List ℕ) (x : Pair) (t
   pub beyond : drop (cells v (length input)) work′ ≡ drop (cells v (length input)) work
   pub work-size : length work′ ≡ length work
   pub counts : Counts (cells v (length input)) table table′ (countOf replies)
+  pub small : code (outcomeOf replies) ≤ 5 + length input
   pub from-right : RightTable rule input v table → OverAnswers rule v input x table table′ replies

@@ -124,7 +124,8 @@ fn entry_of(x: State) -> u32
     ensures { λ r. ⌜ r ≡ entry (x .second) (topOf x) ⌝ }
 {
     let pair = 2 * pack(x.variable, x.position);
-    if x.second {
+    let second = x.second;
+    if second {
         return pair + 1;
     }
     pair
@@ -500,12 +501,12 @@ pub fn ask_over(
     requires { ⌜ OverReady (ruleIn (now rules)) (now input) variables variable position (now table) (now work) ⌝ }
     ensures { λ r. ⌜ Over (ruleIn (now (rules .entry))) variables (now (input .entry)) (variable at position) (now (table .entry)) (now (table .exit)) (now (work .entry)) (now (work .exit)) (told r) ⌝ }
 {
-    let found = Cell::load(table, cell_number(input.len(), variable, position));
-    if found.0 == Cell::FAILURE.0 {
+    let asked = Cell::load(table, cell_number(input.len(), variable, position));
+    if asked.0 == Cell::FAILURE.0 {
         return Answer::Failure(0);
     }
-    if found.0 < Cell::SUCCESS.0 {
+    if asked.0 < Cell::SUCCESS.0 {
         return walk_over(rules, input, variables, variable, position, table, work);
     }
-    Answer::Success(found.0 - Cell::SUCCESS.0, 0)
+    Answer::Success(asked.0 - Cell::SUCCESS.0, 0)
 }

@@ -4,44 +4,34 @@ use Rattle.columns.proofs.Five.{fails, passes, among-bounds, last-fault
 use borrow.Author.Needs.{needs}
 use Rattle.columns.proofs.five_columns.Statement.{statement}
 use Rattle.columns.proofs.five_columns.Tie as tie
-use Rattle.columns.proofs.five_columns.Reads as reads
-use Rattle.columns.proofs.five_columns.Lts as lts
-use Rattle.columns.proofs.among.Reads as among-reads
 
--- src/lib.rt:100:9
 among-requires : tie.Need-among-requires
 among-requires c κs = search needs
 
--- src/lib.rt:101:9
 returns : tie.Need-returns
 returns c =
     let a = c .before .before .args in
     last-fault (a .left) (a .e) (fails (c .before .among .ensures) (c .if1 .taken))
 
--- src/lib.rt:103:16
 sub-ones : tie.Need-sub-ones
 sub-ones c =
     let a = c .before .before .args in
     let k0 = among-bounds 48 57 (a .e) (passes (c .before .among .ensures) (c .if1 .left)) in
     omega arith
 
--- src/lib.rt:105:9
 returns-2 : tie.Need-returns-2
 returns-2 c =
     let a = c .before .before .before .args in
     one-digit (a .left) (a .e) (c .if2 .taken) (passes (c .before .before .among .ensures) (c .before .if1 .left))
 
--- src/lib.rt:109:13
 among-requires-2 : tie.Need-among-requires-2
 among-requires-2 c κs = search needs
 
--- src/lib.rt:110:13
 returns-3 : tie.Need-returns-3
 returns-3 c =
     let a = c .before .before .before .before .before .before .args in
     two-fault (a .left) (a .e) (c .before .before .before .if2 .left) (c .before .before .if3 .taken) (fails (c .before .among2 .ensures) (c .if4 .taken))
 
--- src/lib.rt:112:36
 sub-t15 : tie.Need-sub-t15
 sub-t15 c =
     let a = c .before .before .before .before .before .before .args in
@@ -49,7 +39,6 @@ sub-t15 c =
     let k1 = among-bounds 48 57 (a .e) (passes (c .before .before .before .before .before .among .ensures) (c .before .before .before .before .if1 .left)) in
     omega arith
 
--- src/lib.rt:112:30
 mul-t16 : tie.Need-mul-t16
 mul-t16 c =
     let a = c .before .before .before .before .before .before .args in
@@ -57,7 +46,6 @@ mul-t16 c =
     let k1 = among-bounds 48 57 (a .e) (passes (c .before .before .before .before .before .among .ensures) (c .before .before .before .before .if1 .left)) in
     omega arith
 
--- src/lib.rt:112:30
 add-t17 : tie.Need-add-t17
 add-t17 c =
     let a = c .before .before .before .before .before .before .args in
@@ -65,23 +53,19 @@ add-t17 c =
     let k1 = among-bounds 48 57 (a .e) (passes (c .before .before .before .before .before .among .ensures) (c .before .before .before .before .if1 .left)) in
     omega arith
 
--- src/lib.rt:112:9
 returns-4 : tie.Need-returns-4
 returns-4 c =
     let a = c .before .before .before .before .before .before .args in
     two-digits (a .left) (a .e) (c .before .before .before .if2 .left) (c .before .before .if3 .taken) (passes (c .before .among2 .ensures) (c .if4 .left)) (passes (c .before .before .before .before .before .among .ensures) (c .before .before .before .before .if1 .left))
 
--- src/lib.rt:114:9
 among-requires-3 : tie.Need-among-requires-3
 among-requires-3 c κs = search needs
 
--- src/lib.rt:115:9
 returns-5 : tie.Need-returns-5
 returns-5 c =
     let a = c .before .before .before .before .before .before .args in
     fourth-fault (a .left) (a .e) (c .before .before .before .if2 .left) (fails (c .before .among3 .ensures) (c .if5 .taken))
 
--- src/lib.rt:117:22
 sub-tens : tie.Need-sub-tens
 sub-tens c =
     let a = c .before .before .before .before .before .before .args in
@@ -89,7 +73,6 @@ sub-tens c =
     let k1 = among-bounds 48 57 (a .e) (passes (c .before .before .before .before .before .among .ensures) (c .before .before .before .before .if1 .left)) in
     omega arith
 
--- src/lib.rt:117:16
 mul-tens : tie.Need-mul-tens
 mul-tens c =
     let a = c .before .before .before .before .before .before .args in
@@ -97,7 +80,6 @@ mul-tens c =
     let k1 = among-bounds 48 57 (a .e) (passes (c .before .before .before .before .before .among .ensures) (c .before .before .before .before .if1 .left)) in
     omega arith
 
--- src/lib.rt:117:16
 add-tens : tie.Need-add-tens
 add-tens c =
     let a = c .before .before .before .before .before .before .args in
@@ -105,17 +87,14 @@ add-tens c =
     let k1 = among-bounds 48 57 (a .e) (passes (c .before .before .before .before .before .among .ensures) (c .before .before .before .before .if1 .left)) in
     omega arith
 
--- src/lib.rt:120:13
 among-requires-4 : tie.Need-among-requires-4
 among-requires-4 c κs = search needs
 
--- src/lib.rt:121:13
 returns-6 : tie.Need-returns-6
 returns-6 c =
     let a = c .before .before .before .before .before .before .before .before .before .args in
     three-fault (a .left) (a .e) (c .before .before .before .before .before .if3 .left) (c .before .before .if6 .taken) (fails (c .before .among4 .ensures) (c .if7 .taken))
 
--- src/lib.rt:123:37
 sub-t21 : tie.Need-sub-t21
 sub-t21 c =
     let a = c .before .before .before .before .before .before .before .before .before .args in
@@ -124,7 +103,6 @@ sub-t21 c =
     let k2 = among-bounds 48 57 (a .e) (passes (c .before .before .before .before .before .before .before .before .among .ensures) (c .before .before .before .before .before .before .before .if1 .left)) in
     omega arith
 
--- src/lib.rt:123:30
 mul-t22 : tie.Need-mul-t22
 mul-t22 c =
     let a = c .before .before .before .before .before .before .before .before .before .args in
@@ -133,7 +111,6 @@ mul-t22 c =
     let k2 = among-bounds 48 57 (a .e) (passes (c .before .before .before .before .before .before .before .before .among .ensures) (c .before .before .before .before .before .before .before .if1 .left)) in
     omega arith
 
--- src/lib.rt:123:30
 add-t23 : tie.Need-add-t23
 add-t23 c =
     let a = c .before .before .before .before .before .before .before .before .before .args in
@@ -142,23 +119,19 @@ add-t23 c =
     let k2 = among-bounds 48 57 (a .e) (passes (c .before .before .before .before .before .before .before .before .among .ensures) (c .before .before .before .before .before .before .before .if1 .left)) in
     omega arith
 
--- src/lib.rt:123:9
 returns-7 : tie.Need-returns-7
 returns-7 c =
     let a = c .before .before .before .before .before .before .before .before .before .args in
     three-digits (a .left) (a .e) (c .before .before .before .before .before .if3 .left) (c .before .before .if6 .taken) (passes (c .before .among4 .ensures) (c .if7 .left)) (passes (c .before .before .before .before .among3 .ensures) (c .before .before .before .if5 .left)) (passes (c .before .before .before .before .before .before .before .before .among .ensures) (c .before .before .before .before .before .before .before .if1 .left))
 
--- src/lib.rt:125:9
 among-requires-5 : tie.Need-among-requires-5
 among-requires-5 c κs = search needs
 
--- src/lib.rt:126:9
 returns-8 : tie.Need-returns-8
 returns-8 c =
     let a = c .before .before .before .before .before .before .before .before .before .args in
     third-fault (a .left) (a .e) (c .before .before .before .before .before .if3 .left) (fails (c .before .among5 .ensures) (c .if8 .taken))
 
--- src/lib.rt:128:27
 sub-hundreds : tie.Need-sub-hundreds
 sub-hundreds c =
     let a = c .before .before .before .before .before .before .before .before .before .args in
@@ -167,7 +140,6 @@ sub-hundreds c =
     let k2 = among-bounds 48 57 (a .e) (passes (c .before .before .before .before .before .before .before .before .among .ensures) (c .before .before .before .before .before .before .before .if1 .left)) in
     omega arith
 
--- src/lib.rt:128:20
 mul-hundreds : tie.Need-mul-hundreds
 mul-hundreds c =
     let a = c .before .before .before .before .before .before .before .before .before .args in
@@ -176,7 +148,6 @@ mul-hundreds c =
     let k2 = among-bounds 48 57 (a .e) (passes (c .before .before .before .before .before .before .before .before .among .ensures) (c .before .before .before .before .before .before .before .if1 .left)) in
     omega arith
 
--- src/lib.rt:128:20
 add-hundreds : tie.Need-add-hundreds
 add-hundreds c =
     let a = c .before .before .before .before .before .before .before .before .before .args in
@@ -185,17 +156,14 @@ add-hundreds c =
     let k2 = among-bounds 48 57 (a .e) (passes (c .before .before .before .before .before .before .before .before .among .ensures) (c .before .before .before .before .before .before .before .if1 .left)) in
     omega arith
 
--- src/lib.rt:132:13
 among-requires-6 : tie.Need-among-requires-6
 among-requires-6 c κs = search needs
 
--- src/lib.rt:133:13
 returns-9 : tie.Need-returns-9
 returns-9 c =
     let a = c .before .before .before .before .before .before .before .before .before .before .before .before .args in
     four-fault (a .left) (a .e) (c .before .before .before .before .before .if6 .left) (c .before .before .if9 .taken) (fails (c .before .among6 .ensures) (c .if10 .taken))
 
--- src/lib.rt:135:38
 sub-t26 : tie.Need-sub-t26
 sub-t26 c =
     let a = c .before .before .before .before .before .before .before .before .before .before .before .before .args in
@@ -205,7 +173,6 @@ sub-t26 c =
     let k3 = among-bounds 48 57 (a .e) (passes (c .before .before .before .before .before .before .before .before .before .before .before .among .ensures) (c .before .before .before .before .before .before .before .before .before .before .if1 .left)) in
     omega arith
 
--- src/lib.rt:135:30
 mul-t27 : tie.Need-mul-t27
 mul-t27 c =
     let a = c .before .before .before .before .before .before .before .before .before .before .before .before .args in
@@ -215,7 +182,6 @@ mul-t27 c =
     let k3 = among-bounds 48 57 (a .e) (passes (c .before .before .before .before .before .before .before .before .before .before .before .among .ensures) (c .before .before .before .before .before .before .before .before .before .before .if1 .left)) in
     omega arith
 
--- src/lib.rt:135:30
 add-t28 : tie.Need-add-t28
 add-t28 c =
     let a = c .before .before .before .before .before .before .before .before .before .before .before .before .args in
@@ -225,33 +191,27 @@ add-t28 c =
     let k3 = among-bounds 48 57 (a .e) (passes (c .before .before .before .before .before .before .before .before .before .before .before .among .ensures) (c .before .before .before .before .before .before .before .before .before .before .if1 .left)) in
     record { fits = four-small _ _ _ _ (k0 .1) (k1 .1) (k2 .1) (k3 .1) }
 
--- src/lib.rt:135:9
 returns-10 : tie.Need-returns-10
 returns-10 c =
     let a = c .before .before .before .before .before .before .before .before .before .before .before .before .args in
     four-digits (a .left) (a .e) (c .before .before .before .before .before .if6 .left) (c .before .before .if9 .taken) (passes (c .before .among6 .ensures) (c .if10 .left)) (passes (c .before .before .before .before .among5 .ensures) (c .before .before .before .if8 .left)) (passes (c .before .before .before .before .before .before .before .among3 .ensures) (c .before .before .before .before .before .before .if5 .left)) (passes (c .before .before .before .before .before .before .before .before .before .before .before .among .ensures) (c .before .before .before .before .before .before .before .before .before .before .if1 .left))
 
--- src/lib.rt:137:9
 among-requires-7 : tie.Need-among-requires-7
 among-requires-7 c κs = search needs
 
--- src/lib.rt:138:9
 returns-11 : tie.Need-returns-11
 returns-11 c =
     let a = c .before .before .before .before .before .before .before .before .before .before .before .before .args in
     second-fault (a .left) (a .e) (c .before .before .before .before .before .if6 .left) (fails (c .before .among7 .ensures) (c .if11 .taken))
 
--- src/lib.rt:140:9
 among-requires-8 : tie.Need-among-requires-8
 among-requires-8 c κs = search needs
 
--- src/lib.rt:141:9
 returns-12 : tie.Need-returns-12
 returns-12 c =
     let a = c .before .before .before .before .before .before .before .before .before .before .before .before .before .before .args in
     five-fault (a .left) (a .e) (c .before .before .before .before .if9 .left) (fails (c .before .among8 .ensures) (c .if12 .taken))
 
--- src/lib.rt:143:28
 sub-t12 : tie.Need-sub-t12
 sub-t12 c =
     let a = c .before .before .before .before .before .before .before .before .before .before .before .before .before .before .args in
@@ -262,7 +222,6 @@ sub-t12 c =
     let k4 = among-bounds 48 57 (a .e) (passes (c .before .before .before .before .before .before .before .before .before .before .before .before .before .among .ensures) (c .before .before .before .before .before .before .before .before .before .before .before .before .if1 .left)) in
     omega arith
 
--- src/lib.rt:143:19
 mul-t18 : tie.Need-mul-t18
 mul-t18 c =
     let a = c .before .before .before .before .before .before .before .before .before .before .before .before .before .before .args in
@@ -273,7 +232,6 @@ mul-t18 c =
     let k4 = among-bounds 48 57 (a .e) (passes (c .before .before .before .before .before .before .before .before .before .before .before .before .before .among .ensures) (c .before .before .before .before .before .before .before .before .before .before .before .before .if1 .left)) in
     omega arith
 
--- src/lib.rt:143:46
 sub-t29 : tie.Need-sub-t29
 sub-t29 c =
     let a = c .before .before .before .before .before .before .before .before .before .before .before .before .before .before .args in
@@ -284,7 +242,6 @@ sub-t29 c =
     let k4 = among-bounds 48 57 (a .e) (passes (c .before .before .before .before .before .before .before .before .before .before .before .before .before .among .ensures) (c .before .before .before .before .before .before .before .before .before .before .before .before .if1 .left)) in
     omega arith
 
--- src/lib.rt:143:38
 mul-t30 : tie.Need-mul-t30
 mul-t30 c =
     let a = c .before .before .before .before .before .before .before .before .before .before .before .before .before .before .args in
@@ -295,7 +252,6 @@ mul-t30 c =
     let k4 = among-bounds 48 57 (a .e) (passes (c .before .before .before .before .before .before .before .before .before .before .before .before .before .among .ensures) (c .before .before .before .before .before .before .before .before .before .before .before .before .if1 .left)) in
     omega arith
 
--- src/lib.rt:143:19
 add-t31 : tie.Need-add-t31
 add-t31 c =
     let a = c .before .before .before .before .before .before .before .before .before .before .before .before .before .before .args in
@@ -306,7 +262,6 @@ add-t31 c =
     let k4 = among-bounds 48 57 (a .e) (passes (c .before .before .before .before .before .before .before .before .before .before .before .before .before .among .ensures) (c .before .before .before .before .before .before .before .before .before .before .before .before .if1 .left)) in
     omega arith
 
--- src/lib.rt:143:19
 add-t32 : tie.Need-add-t32
 add-t32 c =
     let a = c .before .before .before .before .before .before .before .before .before .before .before .before .before .before .args in
@@ -317,7 +272,6 @@ add-t32 c =
     let k4 = among-bounds 48 57 (a .e) (passes (c .before .before .before .before .before .before .before .before .before .before .before .before .before .among .ensures) (c .before .before .before .before .before .before .before .before .before .before .before .before .if1 .left)) in
     record { fits = five-small _ _ _ _ _ (k0 .1) (k1 .1) (k2 .1) (k3 .1) (k4 .1) }
 
--- src/lib.rt:97:1
 returns-13 : tie.Need-returns-13
 returns-13 c =
     let a = c .before .before .before .before .before .before .before .before .before .before .before .before .before .before .args in

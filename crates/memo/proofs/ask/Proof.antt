@@ -2,36 +2,25 @@ use Rattle.memo.proofs.Asked.{may-ask, asked}
 use borrow.Author.Needs.{needs}
 use Rattle.memo.proofs.ask.Statement.{statement}
 use Rattle.memo.proofs.ask.Tie as tie
-use Rattle.memo.proofs.ask.Reads as reads
-use Rattle.memo.proofs.ask.Lts as lts
-use Rattle.walk.proofs.ask_over.Reads as ask-over-reads
-use Rattle.walk.proofs.blank.Reads as blank-reads
 
--- src/lib.rt:528:40
 add-blank : tie.Need-add-blank
 add-blank c = search needs
 
--- src/lib.rt:528:18
 mul-blank : tie.Need-mul-blank
 mul-blank c = search needs
 
--- src/lib.rt:528:5
 blank-requires : tie.Need-blank-requires
 blank-requires c κs = search needs
 
--- src/lib.rt:529:5
 ask-over-requires : tie.Need-ask-over-requires
 ask-over-requires c κs = may-ask (c .before .before .before .before .before .before .before .before .before .pre) (c .before .before .before .before .blank .ensures)
 
--- src/lib.rt:516:1
 same-length : tie.Need-same-length
 same-length c = search needs
 
--- src/lib.rt:516:1
 same-length-2 : tie.Need-same-length-2
 same-length-2 c = search needs
 
--- src/lib.rt:516:1
 returns : tie.Need-returns
 returns c = asked (c .before .before .before .before .before .before .before .before .before .before .before .before .before .before .pre) (c .before .before .before .before .before .before .before .before .before .blank .ensures) _ (c .before .before .before .before .ask-over .ensures)
 

@@ -9,23 +9,16 @@ use native.Mathlib.Omega.{arith}
 use borrow.Author.Needs.{needs}
 use Rattle.rules.proofs.admit.Statement.{statement}
 use Rattle.rules.proofs.admit.Tie as tie
-use Rattle.rules.proofs.admit.Reads as reads
-use Rattle.rules.proofs.admit.Lts as lts
-use Rattle.grammar.proofs.sheet.read_sheet.Reads as read-sheet-reads
 
--- src/lib.rt:81:9
 read-sheet-requires : tie.Need-read-sheet-requires
 read-sheet-requires c κs = search needs
 
--- src/lib.rt:83:24
 enum-known-read : tie.Need-enum-known-read
 enum-known-read c = search needs
 
--- src/lib.rt:84:21
 enum-known-read-2 : tie.Need-enum-known-read-2
 enum-known-read-2 c = search needs
 
--- src/lib.rt:86:17
 returns : tie.Need-returns
 returns c =
     let a = c .before .before .before .before .before .before .before .before .args in
@@ -33,7 +26,6 @@ returns c =
     let t = told-read (sheet (a .sheet .now)) _ _ (p .says) (c .before .before .read2 .given .1) in
     admits _ _ _ _ _ _ _ (p .stores) (asked-by (a .sheet .now) (a .input .now) (t .grammar) (a .variable) (a .position) (t .accepts) (lt-ltb _ _ (c .if1 .taken)) (refl) (refl)) refl
 
--- src/lib.rt:89:17
 returns-2 : tie.Need-returns-2
 returns-2 c =
     let a = c .before .before .before .before .before .before .before .before .before .args in
@@ -41,7 +33,6 @@ returns-2 c =
     let t = told-read (sheet (a .sheet .now)) _ _ (p .says) (c .before .before .before .read2 .given .1) in
     admits _ _ _ _ _ _ _ (p .stores) (asked-by (a .sheet .now) (a .input .now) (t .grammar) (a .variable) (a .position) (t .accepts) (le-ltb _ _ (c .before .if1 .left)) (within-low _ _ _ (c .if2 .taken)) (refl)) refl
 
--- src/lib.rt:92:17
 returns-3 : tie.Need-returns-3
 returns-3 c =
     let a = c .before .before .before .before .before .before .before .before .before .before .before .args in
@@ -49,7 +40,6 @@ returns-3 c =
     let t = told-read (sheet (a .sheet .now)) _ _ (p .says) (c .before .before .before .before .before .read2 .given .1) in
     admits _ _ _ _ _ _ _ (p .stores) (asked-by (a .sheet .now) (a .input .now) (t .grammar) (a .variable) (a .position) (t .accepts) (le-ltb _ _ (c .before .before .before .if1 .left)) (within-high 1 (t .grammar .variables) (a .variable) (omega (arith, t .variables-are))) (refl)) refl
 
--- src/lib.rt:95:17
 returns-4 : tie.Need-returns-4
 returns-4 c =
     let a = c .before .before .before .before .before .before .before .before .before .before .before .before .args in
@@ -57,14 +47,12 @@ returns-4 c =
     let t = told-read (sheet (a .sheet .now)) _ _ (p .says) (c .before .before .before .before .before .before .read2 .given .1) in
     admits _ _ _ _ _ _ _ (p .stores) (asked-by (a .sheet .now) (a .input .now) (t .grammar) (a .variable) (a .position) (t .accepts) (le-ltb _ _ (c .before .before .before .before .if1 .left)) (within-both 1 (t .grammar .variables) (a .variable) (omega arith) (omega (arith, t .variables-are))) (lt-ltb _ _ (c .if4 .taken))) refl
 
--- src/lib.rt:78:1
 returns-5 : tie.Need-returns-5
 returns-5 c =
     let a = c .before .before .before .before .before .before .before .args in
     let p = c .before .before .before .read-sheet .ensures in
     admits _ _ _ _ _ _ _ (p .stores) (handed-refused (a .sheet .now) _ _ _ (told-refused (sheet (a .sheet .now)) _ _ _ (p .says) (c .before .read .given .1))) refl
 
--- src/lib.rt:78:1
 returns-6 : tie.Need-returns-6
 returns-6 c =
     let a = c .before .before .before .before .before .before .before .before .before .before .before .before .args in

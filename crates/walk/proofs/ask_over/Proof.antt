@@ -10,27 +10,18 @@ use Rattle.walk.proofs.Overs.{over-in, over-settled}
 use borrow.Author.Needs.{needs}
 use Rattle.walk.proofs.ask_over.Statement.{statement}
 use Rattle.walk.proofs.ask_over.Tie as tie
-use Rattle.walk.proofs.ask_over.Reads as reads
-use Rattle.walk.proofs.ask_over.Lts as lts
-use Rattle.walk.proofs.Cell.load.Reads as load-reads
-use Rattle.walk.proofs.cell_number.Reads as cell-number-reads
-use Rattle.walk.proofs.walk_over.Reads as walk-over-reads
 
--- src/lib.rt:550:35
 cell-number-requires : tie.Need-cell-number-requires
 cell-number-requires c κs = search needs
 
--- src/lib.rt:550:9
 load-requires : tie.Need-load-requires
 load-requires c κs =
     let st = c .before .before .before .before .before in
     subst (λ (i : ℕ). i < length (st .args .table .now)) (sym (c .cell-number .ensures)) (over-in (st .pre))
 
--- src/lib.rt:552:9
 same-length : tie.Need-same-length
 same-length c = search needs
 
--- src/lib.rt:552:9
 returns : tie.Need-returns
 returns c =
     let l = c .before .before .before in
@@ -40,7 +31,6 @@ returns c =
     let e = held-is n (a .table .now) (a .variable at a .position) _ _ (l .load .ensures) (l .before .cell-number .ensures) in
     over-settled (st .pre) failure (failure-settled n _ (e ∙ c .if1 .taken)) _ refl
 
--- src/lib.rt:555:9
 walk-over-requires : tie.Need-walk-over-requires
 walk-over-requires c κs =
     let l = c .before .before .before .before .before .before .before .before in
@@ -50,27 +40,21 @@ walk-over-requires c κs =
     let e = held-is n (a .table .now) (a .variable at a .position) _ _ (l .load .ensures) (l .before .cell-number .ensures) in
     (st .pre, rw e (record { no-failure = c .before .before .before .before .before .if1 .left; no-success = c .before .before .if2 .taken }))
 
--- src/lib.rt:555:9
 same-length-2 : tie.Need-same-length-2
 same-length-2 c = search needs
 
--- src/lib.rt:555:9
 same-length-3 : tie.Need-same-length-3
 same-length-3 c = search needs
 
--- src/lib.rt:555:9
 returns-2 : tie.Need-returns-2
 returns-2 c = search needs
 
--- src/lib.rt:557:21
 sub-t19 : tie.Need-sub-t19
 sub-t19 c = search needs
 
--- src/lib.rt:538:1
 same-length-4 : tie.Need-same-length-4
 same-length-4 c = search needs
 
--- src/lib.rt:538:1
 returns-3 : tie.Need-returns-3
 returns-3 c =
     let l = c .before .before .before .before .before .before .before .before in

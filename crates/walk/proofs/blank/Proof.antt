@@ -7,9 +7,6 @@ use borrow.Author.Fill.{fill-more}
 use borrow.Author.Needs.{needs}
 use Rattle.walk.proofs.blank.Statement.{statement}
 use Rattle.walk.proofs.blank.Tie as tie
-use Rattle.walk.proofs.blank.Reads as reads
-use Rattle.walk.proofs.blank.Lts as lts
-use Rattle.walk.proofs.Cell.store.Reads as store-reads
 use Rattle.schema.specs.Cells.{stored}
 use Rattle.schema.proofs.Cells.{stored-length}
 
@@ -19,23 +16,18 @@ Inv-loop table₀ size i₀ table i = (i ≤ size) × (length table ≡ length t
 abbrev μ-loop : tie.MeasureT-loop
 μ-loop table₀ size i₀ table i = size - i
 
--- src/lib.rt:222:5
 loop-holds : tie.Need-loop-holds Inv-loop μ-loop
 loop-holds c = search needs
 
--- src/lib.rt:223:9
 store-requires : tie.Need-store-requires Inv-loop μ-loop
 store-requires c κs = search needs
 
--- src/lib.rt:224:9
 add-i : tie.Need-add-i Inv-loop μ-loop
 add-i c = search needs
 
--- src/lib.rt:222:5
 loop-less : tie.Need-loop-less Inv-loop μ-loop
 loop-less c = search needs
 
--- src/lib.rt:222:5
 loop-again : tie.Need-loop-again Inv-loop μ-loop
 loop-again c =
     let stored = c .before .before .store .ensures in
@@ -43,11 +35,9 @@ loop-again c =
     let l : c .before .before .before .before .before .loop .i < length (c .before .before .before .before .before .before .before .args .table .now) = omega arith in
     (omega arith, ap length stored ∙ stored-length (c .before .before .before .before .before .loop .table) (c .before .before .before .before .before .loop .i) 0 ∙ inv .1, stored ∙ rw (inv .2) (fill-more _ 0 _ l))
 
--- src/lib.rt:217:1
 same-length : tie.Need-same-length Inv-loop μ-loop
 same-length c = search needs
 
--- src/lib.rt:217:1
 returns : tie.Need-returns Inv-loop μ-loop
 returns c =
     let e : c .before .loop .i ≡ c .before .before .before .args .size = omega arith in

@@ -5,16 +5,10 @@ use Rattle.walk.proofs.Finished.{none-closes, finishes}
 use borrow.Author.Needs.{needs}
 use Rattle.walk.proofs.finish.Statement.{statement}
 use Rattle.walk.proofs.finish.Tie as tie
-use Rattle.walk.proofs.finish.Reads as reads
-use Rattle.walk.proofs.finish.Lts as lts
-use Rattle.walk.proofs.close.Reads as close-reads
-use Rattle.walk.proofs.settled.Reads as settled-reads
 
--- src/lib.rt:455:23
 enum-known-end : tie.Need-enum-known-end
 enum-known-end c = search needs
 
--- src/lib.rt:455:32
 settled-requires : tie.Need-settled-requires
 settled-requires c κs =
     let st = c .before .before .before .before .before in
@@ -22,40 +16,33 @@ settled-requires c κs =
     let r = subst (FinishReady (a .n) (a .variables) (a .table .now) (a .work .now)) (c .before .end .given .1) (st .pre) in
     r .code-is
 
--- src/lib.rt:456:20
 enum-known-end-2 : tie.Need-enum-known-end-2
 enum-known-end-2 c = search needs
 
--- src/lib.rt:457:13
 close-requires : tie.Need-close-requires
 close-requires c κs =
     let st = c .before .before .before .before .before .before in
     let a = st .args in
     subst (FinishReady (a .n) (a .variables) (a .table .now) (a .work .now)) (c .before .before .end2 .given .1) (st .pre)
 
--- src/lib.rt:460:23
 enum-known-end-3 : tie.Need-enum-known-end-3
 enum-known-end-3 c = search needs
 
--- src/lib.rt:461:13
 close-requires-2 : tie.Need-close-requires-2
 close-requires-2 c κs =
     let st = c .before .before .before .before .before .before in
     let a = st .args in
     subst (FinishReady (a .n) (a .variables) (a .table .now) (a .work .now)) (c .before .before .end3 .given .1) (st .pre)
 
--- src/lib.rt:464:19
 enum-known-end-4 : tie.Need-enum-known-end-4
 enum-known-end-4 c = search needs
 
--- src/lib.rt:465:13
 close-requires-3 : tie.Need-close-requires-3
 close-requires-3 c κs =
     let st = c .before .before .before .before .before .before in
     let a = st .args in
     subst (FinishReady (a .n) (a .variables) (a .table .now) (a .work .now)) (c .before .before .end4 .given .1) (st .pre)
 
--- src/lib.rt:450:1
 returns : tie.Need-returns
 returns c =
     let st = c .before .before .before .before .before .before in
@@ -63,31 +50,25 @@ returns c =
     let r = subst (FinishReady (a .n) (a .variables) (a .table .now) (a .work .now)) (c .before .before .end .given .1) (st .pre) in
     finishes (a .n) (a .variables) _ _ _ (walk.Settled (c .before .before .end .given .0 .0)) (c .before .before .end .given .1) (none-closes (r .no-open)) (c .settled .ensures)
 
--- src/lib.rt:450:1
 same-length : tie.Need-same-length
 same-length c = search needs
 
--- src/lib.rt:450:1
 returns-2 : tie.Need-returns-2
 returns-2 c =
     let a = c .before .before .before .before .before .before .before .before .before .args in
     finishes (a .n) (a .variables) _ _ _ (walk.Loop (c .before .before .before .before .before .end2 .given .0 .0) (c .before .before .before .before .before .end2 .given .0 .1 .0) (c .before .before .before .before .before .end2 .given .0 .1 .1 .0) (c .before .before .before .before .before .end2 .given .0 .1 .1 .1 .0) (c .before .before .before .before .before .end2 .given .0 .1 .1 .1 .1 .0)) (c .before .before .before .before .before .end2 .given .1) (c .before .before .close .ensures) refl
 
--- src/lib.rt:450:1
 same-length-2 : tie.Need-same-length-2
 same-length-2 c = search needs
 
--- src/lib.rt:450:1
 returns-3 : tie.Need-returns-3
 returns-3 c =
     let a = c .before .before .before .before .before .before .before .before .before .args in
     finishes (a .n) (a .variables) _ _ _ (walk.Missing (c .before .before .before .before .before .end3 .given .0 .0) (c .before .before .before .before .before .end3 .given .0 .1 .0) (c .before .before .before .before .before .end3 .given .0 .1 .1 .0)) (c .before .before .before .before .before .end3 .given .1) (c .before .before .close2 .ensures) refl
 
--- src/lib.rt:450:1
 same-length-3 : tie.Need-same-length-3
 same-length-3 c = search needs
 
--- src/lib.rt:450:1
 returns-4 : tie.Need-returns-4
 returns-4 c =
     let a = c .before .before .before .before .before .before .before .before .before .args in

@@ -5,27 +5,19 @@ use Rattle.walk.proofs.Looking.{held-is}
 use borrow.Author.Needs.{needs}
 use Rattle.walk.proofs.newly.Statement.{statement}
 use Rattle.walk.proofs.newly.Tie as tie
-use Rattle.walk.proofs.newly.Reads as reads
-use Rattle.walk.proofs.newly.Lts as lts
-use Rattle.walk.proofs.Cell.load.Reads as load-reads
-use Rattle.walk.proofs.cell_number.Reads as cell-number-reads
 
--- src/lib.rt:294:26
 cell-number-requires : tie.Need-cell-number-requires
 cell-number-requires c κs = search needs
 
--- src/lib.rt:294:8
 load-requires : tie.Need-load-requires
 load-requires c κs = search needs
 
--- src/lib.rt:295:9
 returns : tie.Need-returns
 returns c =
     let st = c .before .before .before .before .before .before in
     let a = st .args in
     sym (fresh-blank _ (held-is (a .n) (a .table .now) (a .variable at a .position) _ _ (c .before .before .before .load .ensures) (c .before .before .before .before .cell-number .ensures) ∙ c .if1 .taken))
 
--- src/lib.rt:290:1
 returns-2 : tie.Need-returns-2
 returns-2 c =
     let st = c .before .before .before .before .before .before in

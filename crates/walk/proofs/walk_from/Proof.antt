@@ -13,30 +13,19 @@ use Rattle.walk.proofs.Stepping.{leaf-ends, stuck-first, asked-bounds}
 use borrow.Author.Needs.{needs}
 use Rattle.walk.proofs.walk_from.Statement.{statement}
 use Rattle.walk.proofs.walk_from.Tie as tie
-use Rattle.walk.proofs.walk_from.Reads as reads
-use Rattle.walk.proofs.walk_from.Lts as lts
-use Rattle.walk.proofs.Cell.success.Reads as success-reads
-use Rattle.walk.proofs.settle_asked.Reads as settle-asked-reads
-use Rattle.walk.proofs.walk_on.Reads as walk-on-reads
-use Rattle.rules.proofs.act_at.Reads as act-at-reads
 
--- src/lib.rt:361:11
 act-at-requires : tie.Need-act-at-requires
 act-at-requires c κs = search needs
 
--- src/lib.rt:362:20
 enum-known-b : tie.Need-enum-known-b
 enum-known-b c = search needs
 
--- src/lib.rt:362:32
 walk-on-requires : tie.Need-walk-on-requires
 walk-on-requires c κs = (c .before .before .before .before .before .before .before .before .before .pre, (_, _, sym (c .before .before .before .before .before .act-at .ensures) ∙ ap told (c .before .before .before .b .given .1)))
 
--- src/lib.rt:363:22
 enum-known-end : tie.Need-enum-known-end
 enum-known-end c = search needs
 
--- src/lib.rt:364:17
 success-requires : tie.Need-success-requires
 success-requires c κs =
     let a = c .before .before .before .before .before .before .before .args in
@@ -46,43 +35,33 @@ success-requires c κs =
     let w = r .walkable .short in
     omega arith
 
--- src/lib.rt:365:17
 settle-asked-requires : tie.Need-settle-asked-requires
 settle-asked-requires c κs = asked-bounds (c .before .before .before .before .before .before .before .before .before .pre)
 
--- src/lib.rt:369:36
 enum-told : tie.Need-enum-told
 enum-told c = search needs
 
--- src/lib.rt:369:17
 settle-asked-requires-2 : tie.Need-settle-asked-requires-2
 settle-asked-requires-2 c κs = asked-bounds (c .before .before .before .before .before .before .before .pre)
 
--- src/lib.rt:372:39
 enum-told-2 : tie.Need-enum-told-2
 enum-told-2 c = search needs
 
--- src/lib.rt:373:35
 enum-told-3 : tie.Need-enum-told-3
 enum-told-3 c = search needs
 
--- src/lib.rt:348:1
 same-length : tie.Need-same-length
 same-length c = search needs
 
--- src/lib.rt:348:1
 same-length-2 : tie.Need-same-length-2
 same-length-2 c = search needs
 
--- src/lib.rt:348:1
 returns : tie.Need-returns
 returns c = search needs
 
--- src/lib.rt:348:1
 same-length-3 : tie.Need-same-length-3
 same-length-3 c = search needs
 
--- src/lib.rt:348:1
 returns-2 : tie.Need-returns-2
 returns-2 c =
     let a = c .before .before .before .before .before .before .before .before .before .before .before .before .args in
@@ -92,11 +71,9 @@ returns-2 c =
     let m : Settled (length (a .input .now)) (c .before .before .before .before .success .result .0) (success (c .before .before .before .before .before .before .end .given .0 .0)) = record { code-is = c .before .before .before .before .success .ensures; ends = q } in
     rw (c .before .before .settle-asked .ensures .0, c .before .before .settle-asked .ensures .1) (leaf-ends r (c .before .before .before .before .success .result) (success (c .before .before .before .before .before .before .end .given .0 .0)) m e, asked-counts r (c .before .before .before .before .success .result .0) (settled-full (success (c .before .before .before .before .before .before .end .given .0 .0)) m))
 
--- src/lib.rt:348:1
 same-length-4 : tie.Need-same-length-4
 same-length-4 c = search needs
 
--- src/lib.rt:348:1
 returns-3 : tie.Need-returns-3
 returns-3 c =
     let a = c .before .before .before .before .before .before .before .before .before .before .args in
@@ -104,13 +81,11 @@ returns-3 c =
     let e = sym (c .before .before .before .before .before .before .act-at .ensures) ∙ ap told (c .before .before .before .before .enum-told .given .1) in
     rw (c .before .before .settle-asked2 .ensures .0, c .before .before .settle-asked2 .ensures .1) (leaf-ends r _ failure (failure-settled (length (a .input .now)) 1 refl) e, asked-counts r 1 (λ z. omega arith))
 
--- src/lib.rt:348:1
 returns-4 : tie.Need-returns-4
 returns-4 c =
     let a = c .before .before .before .before .before .before .args in
     (stuck-first (c .before .before .before .before .before .before .pre) missing (sym (c .before .before .act-at .ensures) ∙ ap told (c .enum-told2 .given .1)) (walk.Missing (a .variable) (a .position) 0) refl refl refl (λ opens u. u) tt, omega arith)
 
--- src/lib.rt:348:1
 returns-5 : tie.Need-returns-5
 returns-5 c =
     let a = c .before .before .before .before .before .before .args in

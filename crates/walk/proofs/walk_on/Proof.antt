@@ -13,10 +13,6 @@ use Rattle.walk.proofs.Stepping.{toDo, step-bounds, stands-first, ready
 use borrow.Author.Needs.{needs}
 use Rattle.walk.proofs.walk_on.Statement.{statement}
 use Rattle.walk.proofs.walk_on.Tie as tie
-use Rattle.walk.proofs.walk_on.Reads as reads
-use Rattle.walk.proofs.walk_on.Lts as lts
-use Rattle.walk.proofs.advance.Reads as advance-reads
-use Rattle.walk.proofs.newly.Reads as newly-reads
 
 abbrev Inv-loop : tie.InvT-loop
 Inv-loop rules input variable position b variables table₀ work₀ x₀ count₀ table work x count = Counting (ruleIn rules) input variables (variable at position) (before (length input) (variable at position) table₀) work₀ table₀ table work x count
@@ -24,20 +20,17 @@ Inv-loop rules input variable position b variables table₀ work₀ x₀ count�
 abbrev μ-loop : tie.MeasureT-loop
 μ-loop rules input variable position b variables table₀ work₀ x₀ count₀ table work x count = toDo table (cells variables (length input)) x
 
--- src/lib.rt:324:5
 loop-holds : tie.Need-loop-holds Inv-loop μ-loop
 loop-holds c =
     let r = c .before .before .before .pre in
     record { standing = stands-first (r .0) _ (r .1 .0) (r .1 .1) (r .1 .2) _ refl refl refl refl; counts = omega arith }
 
--- src/lib.rt:325:18
 newly-requires : tie.Need-newly-requires Inv-loop μ-loop
 newly-requires c κs =
     let r = c .before .before .before .before .before .pre .0 in
     let b = step-bounds (ready-still r (c .before .loop .inv .standing)) in
     (b .called-in .low, b .called-high, r .walkable .short, b .called-in .place, b .called-cell)
 
--- src/lib.rt:325:9
 add-count : tie.Need-add-count Inv-loop μ-loop
 add-count c =
     let m = count-small (c .before .before .before .before .before .before .pre .0) (c .before .before .loop .inv) in
@@ -45,19 +38,15 @@ add-count c =
     let f = fresh-small (held (length (c .before .before .before .before .before .before .args .input .now)) (c .before .before .loop .table) (calledOf (c .before .before .loop .x))) in
     omega arith
 
--- src/lib.rt:326:15
 advance-requires : tie.Need-advance-requires Inv-loop μ-loop
 advance-requires c κs = ready-still (c .before .before .before .before .before .before .before .before .pre .0) (c .before .before .before .before .loop .inv .standing)
 
--- src/lib.rt:327:22
 enum-known-next : tie.Need-enum-known-next Inv-loop μ-loop
 enum-known-next c = search needs
 
--- src/lib.rt:324:5
 loop-less : tie.Need-loop-less Inv-loop μ-loop
 loop-less c = goes-on (c .before .before .before .before .before .before .before .before .before .before .before .before .before .before .before .before .pre .0) (c .before .before .before .before .before .before .before .before .before .before .before .before .loop .inv .standing) _ (rw (c .before .next .given .1) at (c .before .before .before .before .before .before .before .advance .ensures)) .1
 
--- src/lib.rt:324:5
 loop-again : tie.Need-loop-again Inv-loop μ-loop
 loop-again c =
     let r = c .before .before .before .before .before .before .before .before .before .before .before .before .before .before .before .before .pre .0 in
@@ -65,19 +54,15 @@ loop-again c =
     let h = rw (c .before .next .given .1) at (c .before .before .before .before .before .before .before .advance .ensures) in
     record { standing = goes-on r (g .standing) _ h .0; counts = counts-on r g _ _ _ _ (c .before .before .before .before .before .before .before .before .before .before .newly .ensures) h }
 
--- src/lib.rt:330:25
 enum-known-end : tie.Need-enum-known-end Inv-loop μ-loop
 enum-known-end c = search needs
 
--- src/lib.rt:331:17
 same-length : tie.Need-same-length Inv-loop μ-loop
 same-length c = c .before .before .before .before .before .before .before .advance .kept .1 .1 .1 .0 ∙ table-length (c .before .before .before .before .before .before .before .before .before .before .before .before .before .before .before .before .pre .0) (c .before .before .before .before .before .before .before .before .before .before .before .before .loop .inv .standing .through)
 
--- src/lib.rt:331:17
 same-length-2 : tie.Need-same-length-2 Inv-loop μ-loop
 same-length-2 c = c .before .before .before .before .before .before .before .advance .kept .1 .1 .1 .1 .0 ∙ c .before .before .before .before .before .before .before .before .before .before .before .before .loop .inv .standing .work-size
 
--- src/lib.rt:331:17
 returns : tie.Need-returns Inv-loop μ-loop
 returns c =
     let r = c .before .before .before .before .before .before .before .before .before .before .before .before .before .before .before .before .pre .0 in

@@ -8,61 +8,44 @@ use Rattle.columns.proofs.Laws.{short, found}
 use borrow.Author.Needs.{needs}
 use Rattle.columns.proofs.Cursor.five.Statement.{statement}
 use Rattle.columns.proofs.Cursor.five.Tie as tie
-use Rattle.columns.proofs.Cursor.five.Reads as reads
-use Rattle.columns.proofs.Cursor.five.Lts as lts
-use Rattle.columns.proofs.five_columns.Reads as five-columns-reads
-use Rattle.columns.proofs.four.Reads as four-reads
-use Rattle.columns.proofs.wide.Reads as wide-reads
 
--- src/lib.rt:189:13
 returns : tie.Need-returns
 returns c =
     let a = c .before .before .args in
     short 5 (a .s .now) (a .self .at) (omega arith)
 
--- src/lib.rt:191:12
 sub-if2 : tie.Need-sub-if2
 sub-if2 c = search needs
 
--- src/lib.rt:192:13
 returns-2 : tie.Need-returns-2
 returns-2 c =
     let a = c .before .before .before .args in
     short 5 (a .s .now) (a .self .at) (omega arith)
 
--- src/lib.rt:194:13
 four-requires : tie.Need-four-requires
 four-requires c κs = search needs
 
--- src/lib.rt:195:41
 add-wide : tie.Need-add-wide
 add-wide c = search needs
 
--- src/lib.rt:195:39
 shared-slice-read-wide : tie.Need-shared-slice-read-wide
 shared-slice-read-wide c = search needs
 
--- src/lib.rt:195:34
 wide-requires : tie.Need-wide-requires
 wide-requires c κs = search needs
 
--- src/lib.rt:195:15
 five-columns-requires : tie.Need-five-columns-requires
 five-columns-requires c κs = search needs
 
--- src/lib.rt:196:27
 enum-known-x : tie.Need-enum-known-x
 enum-known-x c = search needs
 
--- src/lib.rt:196:63
 add-t14 : tie.Need-add-t14
 add-t14 c = search needs
 
--- src/lib.rt:197:30
 enum-told : tie.Need-enum-told
 enum-told c = search needs
 
--- src/lib.rt:184:5
 returns-3 : tie.Need-returns-3
 returns-3 c =
     let a = c .before .before .before .before .before .before .before .before .before .before .args in
@@ -71,7 +54,6 @@ returns-3 c =
     (ap number (five-slice (a .s .now) (a .self .at) (c .before .before .before .before .before .before .four .result) (c .before .before .before .before .wide .result) (omega arith) (f .0) (f .1) (f .2) (f .3) (c .before .before .before .before .wide .ensures .0))
     ∙ sym (c .before .before .before .five-columns .ensures) ∙ ap held (c .before .x .given .1))
 
--- src/lib.rt:184:5
 returns-4 : tie.Need-returns-4
 returns-4 c =
     let a = c .before .before .before .before .before .before .before .before .before .args in
