@@ -4,5 +4,6 @@ pub mod Five
 pub mod Writing
 pub mod RoundTrip
 pub mod Rows
+pub mod RowWriting
 pub mod Fields
 pub mod Parts

@@ -5,7 +5,7 @@ ghost use mathlib.Core.Bool.{_&&_};
 ghost use lib.Dec.{leb};
 ghost use lib.ListN.{length, getD};
 ghost use lib.Seq.{slice};
-ghost use Rattle.columns.specs.Column.{column, digitsAfter, number, reads, told};
+ghost use Rattle.columns.specs.Column.{column, row, digitsAfter, number, reads, told};
 ghost use Rattle.columns.specs.Scan.{Skipped, held, fiveOf, leadingByte};
 
 // The position of a column, counted from 0.
@@ -231,5 +231,20 @@ pub fn write_field(out: &mut [u8], x: u32)
         at -= 1;
         out[at] = leading_byte(left);
         left = left / 10;
+    }
+}
+
+// Writes a row: the numbers in fields of one width, and byte 10. From the last field on, so that what stands behind is a row already.
+pub fn write_row(out: &mut [u8], width: usize, numbers: &[u32])
+    requires { ⌜ length (now out) ≡ width * length (now numbers) + 1 ⌝ }
+    ensures { λ _. ⌜ now (out .exit) ≡ row width (now (numbers .entry)) ⌝ }
+{
+    let mut at = out.len() - 1;
+    out[at] = 10;
+    let mut left = numbers.len();
+    while 0 < left {
+        left -= 1;
+        at -= width;
+        write_field(&mut out[at..at + width], numbers[left]);
     }
 }

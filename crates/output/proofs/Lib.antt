@@ -1,5 +1,4 @@
 -- Laws of the output.
-pub mod FirstLine
 pub mod Start
 pub mod Accepting
 pub mod Printed

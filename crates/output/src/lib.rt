@@ -1,11 +1,9 @@
 // The whole output of the program `readentry`.
 ghost use mathlib.Core.Path.{_≡_};
-ghost use mathlib.Core.List.{[], _∷_};
 ghost use lib.ListN.{length};
-ghost use Rattle.columns.specs.Column.{row};
 ghost use Rattle.memo.specs.Verdict.{numbers};
 ghost use Rattle.output.specs.Output.{StartOf, Certificate, OutputPromise};
-use columns::write_field;
+use columns::write_row;
 use grammar::sheet::Sheet;
 use grammar::sheet::read_sheet;
 use memo::Judgement;
@@ -26,18 +24,6 @@ fn numbers_of(judgement: Judgement) -> [u32; 4]
         Judgement::Partial(end, count) => [5, 0, end, count],
         Judgement::Refused(number, line) => [9, number, line, 0],
     }
-}
-
-// Writes the first line: four fields of 8 columns, and byte 10.
-fn first_line(out: &mut [u8], a: u32, b: u32, c: u32, d: u32)
-    requires { ⌜ length (now out) ≡ 33 ⌝ }
-    ensures { λ _. ⌜ now (out .exit) ≡ row 8 (a ∷ b ∷ c ∷ d ∷ []) ⌝ }
-{
-    write_field(&mut out[0..8], a);
-    write_field(&mut out[8..16], b);
-    write_field(&mut out[16..24], c);
-    write_field(&mut out[24..32], d);
-    out[32] = 10;
 }
 
 // The start variable of a sheet; 0 where the sheet is refused.
@@ -82,7 +68,7 @@ pub fn write_output(sheet: &[u8], input: &[u8], out: &mut [u8]) -> usize
     let mut work = [0u32; 1024];
     let four = numbers_of(memo::verdict(sheet, input, &mut table, &mut work));
     let code = four[0];
-    first_line(&mut out[0..33], code, four[1], four[2], four[3]);
+    write_row(&mut out[0..33], 8, &[code, four[1], four[2], four[3]]);
     let lines = certificate(sheet, input, code, &mut table, &mut work, &mut out[33..]);
     33 + 49 * lines as usize
 }

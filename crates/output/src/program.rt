@@ -24,13 +24,18 @@ fn fill(sheet: &[u8], input: &[u8], out: &mut [u8]) -> usize
     write_output(sheet, input, out)
 }
 
+// Prints the output for a sheet and an input.
+pub fn print(sheet: &[u8], input: &[u8]) {
+    let mut out = [0u8; 50209];
+    let length = fill(sheet, input, &mut out);
+    io::write_all(STDOUT_FILENO, &out[..length]);
+}
+
 // A sheet has at most 6,682 bytes and an input at most 4,096: both buffers hold more, so that what is longer is refused.
 pub fn run() {
     let mut sheet = [0u8; 6708];
     let sheet_length = load_sheet(&mut sheet);
     let mut input = [0u8; 4097];
     let input_length = io::read_full(STDIN_FILENO, &mut input);
-    let mut out = [0u8; 50209];
-    let length = fill(&sheet[..sheet_length], &input[..input_length], &mut out);
-    io::write_all(STDOUT_FILENO, &out[..length]);
+    print(&sheet[..sheet_length], &input[..input_length]);
 }

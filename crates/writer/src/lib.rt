@@ -4,17 +4,16 @@ ghost use mathlib.Core.List.{_++_};
 ghost use Prim.Native.Nat.{_+_, _*_, _≤_, _<_};
 ghost use lib.Dec.{ltb};
 ghost use lib.ListN.{length, set, take, drop};
-ghost use Rattle.columns.specs.Column.{column};
 ghost use Rattle.grammar.specs.Refusal.{Checked};
 ghost use Rattle.grammar.specs.Words.{ruleIn};
 ghost use Rattle.schema.specs.Derivation.{_at_, Result, second};
-ghost use Rattle.schema.specs.Line.{line, lineOf, lineBytes};
+ghost use Rattle.schema.specs.Line.{lineOf, lineBytes};
 ghost use Rattle.schema.specs.Table.{cell, held, cells};
 ghost use Rattle.walk.specs.Reply.{told, Code};
 ghost use Rattle.walk.specs.Walk.{Settled, resultOf};
 ghost use Rattle.writer.specs.Writer.{SaysWriting, WriterPromise};
 ghost use Rattle.writer.specs.Writing.{numberOf, link, TurnsSecond, CallsReady, TurnsCalls, TurnReady, Turns, StepReady, Steps, LinesReady, WriteReady, WriteEnds, AskWriteReady, hasResult};
-use columns::write_field;
+use columns::write_row;
 use grammar::sheet::Rules;
 use grammar::sheet::Sheet;
 use memo::ask;
@@ -109,54 +108,17 @@ fn turn_at(
     turn_calls(input.len(), table, work, position, b, c, d)
 }
 
-// Writes the number x in the 8 columns at a position of the output.
-fn field_at(out: &mut [u8], start: usize, x: u32)
-    requires { ⌜ start + 8 ≤ length (now out) ⌝ }
-    ensures { λ _. ⌜ now (out .exit) ≡ take start (now (out .entry)) ++ (column 8 x ++ drop (start + 8) (now (out .entry))) ⌝ }
-{
-    write_field(&mut out[start..start + 8], x);
-}
-
-// Writes a line.
-fn write_line(
-    out: &mut [u8],
-    variable: u32,
-    position: u32,
-    flag: u32,
-    end: u32,
-    first: u32,
-    second: u32,
-)
-    requires { ⌜ length (now out) ≡ 49 ⌝ }
-    ensures { λ _. ⌜ now (out .exit) ≡ lineBytes (line variable position flag end first second) ⌝ }
-{
-    field_at(out, 0, variable);
-    field_at(out, 8, position);
-    field_at(out, 16, flag);
-    field_at(out, 24, end);
-    field_at(out, 32, first);
-    field_at(out, 40, second);
-    out[48] = 10;
-}
-
 // Writes the line of a pair whose cell holds its result.
 fn result_line(out: &mut [u8], variable: u32, position: u32, cell: Cell, first: u32, second: u32)
     requires { ⌜ (length (now out) ≡ 49) × Code (cell .0) ⌝ }
     ensures { λ _. ⌜ now (out .exit) ≡ lineBytes (lineOf (variable at position) (resultOf (cell .0)) first second) ⌝ }
 {
     if cell.0 == Cell::FAILURE.0 {
-        write_line(out, variable, position, 1, position, first, second);
+        write_row(out, 8, &[variable, position, 1, position, first, second]);
         return;
     }
-    write_line(
-        out,
-        variable,
-        position,
-        0,
-        cell.0 - Cell::SUCCESS.0,
-        first,
-        second,
-    );
+    let end = cell.0 - Cell::SUCCESS.0;
+    write_row(out, 8, &[variable, position, 0, end, first, second]);
 }
 
 // Lays the line of a pair down after those already written, through a part of the output.

@@ -24,26 +24,29 @@ numbers-of-requires c κs = search needs
 array-read-code : tie.Need-array-read-code
 array-read-code c = search needs
 
-sub-first-line : tie.Need-sub-first-line
-sub-first-line c = search needs
+sub-write-row : tie.Need-sub-write-row
+sub-write-row c = search needs
 
-part-first-line-start : tie.Need-part-first-line-start
-part-first-line-start c = search needs
+part-write-row-start : tie.Need-part-write-row-start
+part-write-row-start c = search needs
 
-part-first-line-end : tie.Need-part-first-line-end
-part-first-line-end c = search needs
+part-write-row-end : tie.Need-part-write-row-end
+part-write-row-end c = search needs
 
-array-read-first-line : tie.Need-array-read-first-line
-array-read-first-line c = search needs
+array-read-t19 : tie.Need-array-read-t19
+array-read-t19 c = search needs
 
-array-read-first-line-2 : tie.Need-array-read-first-line-2
-array-read-first-line-2 c = search needs
+array-read-t29 : tie.Need-array-read-t29
+array-read-t29 c = search needs
 
-array-read-first-line-3 : tie.Need-array-read-first-line-3
-array-read-first-line-3 c = search needs
+array-read-t32 : tie.Need-array-read-t32
+array-read-t32 c = search needs
 
-first-line-requires : tie.Need-first-line-requires
-first-line-requires c κs = search needs
+slice-aggregate-write-row : tie.Need-slice-aggregate-write-row
+slice-aggregate-write-row c = search needs
+
+write-row-requires : tie.Need-write-row-requires
+write-row-requires c κs = search needs
 
 slice-aggregate-certificate : tie.Need-slice-aggregate-certificate
 slice-aggregate-certificate c = search needs
@@ -79,13 +82,13 @@ returns-2 : tie.Need-returns-2
 returns-2 c =
     let t = c .before .before .before .before in
     let u = t .before .before .before .before .before .before in
-    let n = u .before .before in
+    let n = u .before .before .before in
     let v = n .before .before .before in
     let i = v .before .before .before in
     let a = i .before .before .before .before .args in
     rw (le-ltb _ _ (i .if1 .left))
     (output-put (a .sheet .now) (a .input .now) (replicate 1024 0) (v .verdict .last .1 .1 .0) (replicate 1024 0) (v .verdict .last .1 .1 .1 .0) (a .out .now)
-    (v .verdict .result) refl refl (v .verdict .ensures) (i .if1 .left) (n .numbers-of .result) (u .first-line .last .0) (n .numbers-of .ensures) (u .first-line .ensures)
+    (v .verdict .result) refl refl (v .verdict .ensures) (i .if1 .left) (n .numbers-of .result) (u .write-row .last .0) (n .numbers-of .ensures) (u .write-row .ensures)
     (t .certificate .last .1 .1 .1 .1 .1 .0) (t .certificate .result) _ _ (search needs) (search needs) (t .certificate .ensures))
 
 pub write-output-spec : {M : Type 1} → statement M
@@ -98,13 +101,14 @@ write-output-spec =
     verdict-requires
     numbers-of-requires
     array-read-code
-    sub-first-line
-    part-first-line-start
-    part-first-line-end
-    array-read-first-line
-    array-read-first-line-2
-    array-read-first-line-3
-    first-line-requires
+    sub-write-row
+    part-write-row-start
+    part-write-row-end
+    array-read-t19
+    array-read-t29
+    array-read-t32
+    slice-aggregate-write-row
+    write-row-requires
     slice-aggregate-certificate
     slice-aggregate-certificate-2
     sub-certificate

@@ -7,7 +7,7 @@ use Rattle.schema.specs.Derivation.{_at_}
 use Rattle.schema.specs.Line.{lineOf, lineBytes}
 use Rattle.walk.specs.Reply.{Code}
 use Rattle.walk.specs.Walk.{resultOf}
-use Rattle.writer.proofs.LineFields.{part-put}
+use Rattle.columns.proofs.RowWriting.{part-put}
 use borrow.Author.Needs.{needs}
 use Rattle.writer.proofs.lay_line.Statement.{statement}
 use Rattle.writer.proofs.lay_line.Tie as tie

@@ -1,4 +1,0 @@
-// A field of line 3 has a leading zero.
-fn main() {
-    output::program::run();
-}

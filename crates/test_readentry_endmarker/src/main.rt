@@ -1,4 +1,0 @@
-// The endmarker is not the last byte.
-fn main() {
-    output::program::run();
-}

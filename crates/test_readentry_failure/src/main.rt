@@ -1,4 +1,0 @@
-// A failure with its reading.
-fn main() {
-    output::program::run();
-}

@@ -1,4 +1,0 @@
-// Case i of document 01: partial.
-fn main() {
-    output::program::run();
-}
