@@ -7,7 +7,7 @@ use native.Mathlib.Omega.{arith}
 use lib.Dec.{leb, eqb}
 use borrow.Author.Tests.{ne-eqb, leb-true, le-leb, lt-leb}
 use Rattle.grammar.specs.Rule.{Rule, always, never, byte, class, call, within, unused, fitting, ruleOf}
-use Rattle.grammar.specs.Words.{bytes, word}
+use Rattle.grammar.specs.Words.{fourBytes, word}
 use Rattle.grammar.specs.Reading.{leafWord}
 
 -- A number within bounds is between them.
@@ -41,7 +41,7 @@ unfolding ruleOf
 call-fits v x y z {a} {b} {c} p q r = rw (p, q, r) (sym (map-fitting (a && b && c) (call x y z)))
 
 -- A rule with no operand, and one with the first alone.
-no-operand : (kind : ℕ) (r : Rule) (x : ℕ) → word r ≡ bytes (kind + 1) 0 0 0 → leafWord kind 0 0 x ≡ Option·map word (fitting (unused x && true && true) r)
+no-operand : (kind : ℕ) (r : Rule) (x : ℕ) → word r ≡ fourBytes (kind + 1) 0 0 0 → leafWord kind 0 0 x ≡ Option·map word (fitting (unused x && true && true) r)
 no-operand kind r zero e = ap some (sym e)
 no-operand kind r (suc x) e = rw (le-leb 0 (suc x) (omega arith), lt-leb (suc x) 0 (omega arith), ne-eqb (suc x) 0 (λ z. omega arith))
 

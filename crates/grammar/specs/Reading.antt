@@ -7,7 +7,7 @@ use Prim.Native.Nat.{ℕ, _+_, _-_, _≤_}
 use Rattle.grammar.specs.Refusal.{Checked, refused, accepted, fault, checked}
 use Rattle.grammar.specs.Rule.{absent, within}
 use Rattle.grammar.specs.Sheet.{lines, variablesOf, startOf, endmarkerOf, variableAt, variableBefore, ruleAt, ruleWithin, malformed, headerOut, variableOut, ruleOut, ruleFaults}
-use Rattle.grammar.specs.Words.{bytes, word, words}
+use Rattle.grammar.specs.Words.{fourBytes, word, words}
 use Rattle.grammar.specs.declared.sheet.Line.{Line}
 use Rattle.grammar.specs.declared.sheet.Line.the-variants.{Numbers, Malformed}
 use Rattle.grammar.specs.declared.sheet.Fitting.{Fitting}
@@ -31,7 +31,7 @@ wordOf Unfit = none
 
 -- The word of a rule with one operand at most.
 abbrev pub leafWord : ℕ → ℕ → ℕ → ℕ → Option ℕ
-leafWord kind least greatest x = cond (within least greatest x) (some (bytes (kind + 1) x 0 0)) none
+leafWord kind least greatest x = cond (within least greatest x) (some (fourBytes (kind + 1) x 0 0)) none
 
 -- "line 1 for 2, 3"
 abbrev pub headerSays : Header → Checked (List ℕ)

@@ -5,7 +5,7 @@ ghost use Prim.Native.Nat.{_*_, _≤_};
 ghost use lib.ListN.{length};
 ghost use Rattle.columns.specs.Column.{fields};
 ghost use Rattle.grammar.specs.Rule.{ruleOf};
-ghost use Rattle.grammar.specs.Words.{bytes, word};
+ghost use Rattle.grammar.specs.Words.{fourBytes, word};
 ghost use Rattle.grammar.specs.Sheet.{notLines, openLine};
 ghost use Rattle.grammar.specs.Reading.{numbersOf, wordOf, leafWord, headerSays, headerFound, lineSays, lineFound, Before, rulesSay, rulesFound, Ready, Stored};
 ghost use Rattle.grammar.specs.Promise.{SheetPromise};
@@ -163,7 +163,7 @@ fn within(low: u32, high: u32, x: u32) -> bool
 // A word of four bytes, the highest first.
 fn pack(a: u32, b: u32, c: u32, d: u32) -> u32
     requires { ⌜ (a ≤ 5) × (b ≤ 255) × (c ≤ 255) × (d ≤ 255) ⌝ }
-    ensures { λ r. ⌜ r ≡ bytes a b c d ⌝ }
+    ensures { λ r. ⌜ r ≡ fourBytes a b c d ⌝ }
 {
     16777216 * a + 65536 * b + 256 * c + d
 }
