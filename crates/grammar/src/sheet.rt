@@ -63,15 +63,14 @@ fn read_fields(line: &[u8]) -> Line
     ensures { λ r. ⌜ numbersOf r ≡ fields 5 5 (now (line .entry)) 0 ⌝ }
 {
     let mut numbers = [0u32; 5];
-    let mut at: usize = 0;
+    let mut here = Cursor { at: 0 };
     let mut k: usize = 0;
     while k < 5 {
-        let here = Cursor { at };
         let Field::Number(x, next) = here.five(line) else {
             return Line::Malformed;
         };
         numbers[k] = x;
-        at = next.at;
+        here = next;
         k += 1;
     }
     Line::Numbers(numbers[0], numbers[1], numbers[2], numbers[3], numbers[4])
