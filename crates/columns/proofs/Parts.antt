@@ -94,7 +94,7 @@ five-of (a ∷ b ∷ c ∷ d ∷ e ∷ f ∷ l) h = absurd (omega arith)
 -- ---- Fields of a part.
 
 -- A part by its start and its length.
-part-is : (a n : ℕ) (s : List ℕ) → take n (drop a s) ≡ slice a (a + n) s
+pub part-is : (a n : ℕ) (s : List ℕ) → take n (drop a s) ≡ slice a (a + n) s
 part-is zero n s = let z : 0 + n ≡ n = omega arith in rw z refl
 part-is (suc a) n [] = take-nil n ∙ sym (ap (drop (suc a)) (take-nil (suc a + n)))
 part-is (suc a) n (x ∷ s) = let e : suc a + n ≡ suc (a + n) = omega arith in rw e (part-is a n s)

@@ -1,6 +1,6 @@
 -- Which kinds and operands fit, and the words of their rules. Assumes nothing.
 use mathlib.Core.Path.{_≡_, refl, ap, sym}
-use mathlib.Core.Bool.{Bool, true, false, cond, _&&_, false≢true, and-false}
+use mathlib.Core.Bool.{Bool, true, false, cond, _&&_, _||_, false≢true, and-false}
 use mathlib.Core.Option.{none, some, Option·map}
 use Prim.Native.Nat.{ℕ, zero, suc, _+_, _≤_, _<_}
 use native.Mathlib.Omega.{arith}
@@ -9,6 +9,11 @@ use borrow.Author.Tests.{ne-eqb, leb-true, le-leb, lt-leb}
 use Rattle.grammar.specs.Rule.{Rule, always, never, byte, class, call, within, unused, fitting, ruleOf}
 use Rattle.grammar.specs.Words.{fourBytes, word}
 use Rattle.grammar.specs.Reading.{leafWord}
+
+-- Neither of two tests is true.
+pub neither-true : (a b : Bool) → a || b ≡ false → (a ≡ false) × (b ≡ false)
+neither-true true b e = absurd (false≢true (sym e))
+neither-true false b e = (refl, e)
 
 -- A number within bounds is between them.
 pub within-bounds : (low high x : ℕ) → within low high x ≡ true → (low ≤ x) × (x ≤ high)

@@ -13,5 +13,6 @@ pub mod Held
 pub mod Told
 pub mod Text
 pub mod Printed
+pub mod Sheets
 pub mod Conditions
 pub mod SheetRefusals

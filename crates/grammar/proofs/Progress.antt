@@ -1,20 +1,19 @@
 -- What is so before each rule line is read. Assumes nothing.
 use mathlib.Core.Path.{_≡_, refl, ap, sym, _∙_}
-use mathlib.Core.Bool.{Bool, true, false, cond, not, _||_, false≢true}
+use mathlib.Core.Bool.{Bool, true, false, cond, not}
 use mathlib.Core.List.{List, [], _∷_}
 use mathlib.Core.Option.{Option·getD}
 use Prim.Native.Nat.{ℕ, suc, _+_, _-_, _≤_, _<_}
 use native.Mathlib.Omega.{arith}
-use lib.Dec.{leb}
 use lib.ListN.{set}
-use borrow.Author.Tests.{ne-eqb, eq-eqb}
+use borrow.Author.Tests.{ne-eqb, eq-eqb, leb-false, not-false}
 use Rattle.grammar.specs.Refusal.{Checked, refused, accepted, checked}
 use Rattle.grammar.specs.Rule.{absent, within}
 use Rattle.grammar.specs.Sheet.{lines, variablesOf, variableAt, variableBefore, ruleAt, ruleWithin, malformed, variableOut, ruleOut, ruleFaults}
 use Rattle.grammar.specs.Words.{word, words}
 use Rattle.grammar.specs.Reading.{lineFound, rulesFound, Ready}
 use Rattle.grammar.proofs.Refusals.{clash}
-use Rattle.grammar.proofs.Fitting.{within-bounds}
+use Rattle.grammar.proofs.Fitting.{neither-true, within-bounds}
 use Rattle.grammar.proofs.Words.{words-set}
 
 -- What k lines from line n on make of the sheet.
@@ -36,14 +35,18 @@ pub record Accepted (s : List ℕ) (n A w : ℕ) : Type 0 where
   pub word-is : w ≡ word (Option·getD (ruleAt s n) absent)
   pub onward : (k : ℕ) → remaining s n (suc k) ≡ remaining s (suc n) k
 
-pub not-out : (s : List ℕ) (n : ℕ) → variableOut s n ≡ false → (1 ≤ variableAt s n) × (variableAt s n ≤ variablesOf s)
+-- A variable that is accepted.
+pub record VariableFits (s : List ℕ) (n : ℕ) : Type 0 where
+  pub above : variableBefore s n < variableAt s n
+  pub low : 1 ≤ variableAt s n
+  pub high : variableAt s n ≤ variablesOf s
+
+pub not-out : (s : List ℕ) (n : ℕ) → variableOut s n ≡ false → VariableFits s n
 unfolding variableOut
-not-out s n e = go (within 1 (variablesOf s) (variableAt s n)) refl e
-  where
-    go : (t : Bool) → within 1 (variablesOf s) (variableAt s n) ≡ t → (not t || leb (variableAt s n) (variableBefore s n)) ≡ false
-        → (1 ≤ variableAt s n) × (variableAt s n ≤ variablesOf s)
-    go true p f = within-bounds 1 (variablesOf s) (variableAt s n) p
-    go false p f = absurd (false≢true (sym f))
+not-out s n e =
+    let t = neither-true (not (within 1 (variablesOf s) (variableAt s n))) _ e in
+    let b = within-bounds 1 (variablesOf s) (variableAt s n) (not-false _ (t .0)) in
+    record { above = leb-false (variableAt s n) (variableBefore s n) (t .1); low = b .0; high = b .1 }
 
 pub line-accepted : (s : List ℕ) (n A w : ℕ) → accepted (A ∷ w ∷ []) ≡ lineFound s n → Accepted s n A w
 unfolding lineFound checked ruleFaults

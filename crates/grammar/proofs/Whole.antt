@@ -1,12 +1,12 @@
 -- The whole sheet: its lines, line 1, and the rule lines. Assumes nothing.
 use mathlib.Core.Path.{_≡_, refl, ap, sym, _∙_}
-use mathlib.Core.Bool.{Bool, true, false, cond, not, _&&_, _||_, false≢true}
+use mathlib.Core.Bool.{Bool, true, false, cond, not, _||_, false≢true, and-eq-true-iff}
 use mathlib.Core.List.{List, [], _∷_}
 use Prim.Native.Nat.{ℕ, _-_, _*_, _%_, _≤_}
 use native.Mathlib.Omega.{arith}
 use lib.Dec.{eqb, ltb}
 use lib.ListN.{length}
-use borrow.Author.Tests.{eqb-true, eqb-false, ltb-false}
+use borrow.Author.Tests.{eqb-true, eqb-false, ltb-false, not-false}
 use Rattle.grammar.specs.Refusal.{Checked, refused, accepted, checked}
 use Rattle.grammar.specs.Rule.{within, unused}
 use Rattle.grammar.specs.Sheet.{lines, variablesOf, startOf, endmarkerOf, numberAt, grammarOf, openLine, notLines, malformed, headerOut, ruleFaults, ruleWithin, sheetFaults, sheet}
@@ -59,27 +59,28 @@ header-read s v start endmarker e = go (malformed s 1) (headerOut s) refl refl e
     go false true p q f = absurd (clash (cc))
     go false false p q f = record { variables-are = cc; start-is = cc; endmarker-is = cc; formed = p; in-range = q }
 
--- V is 1 to 256, and the start variable is one of them.
+-- V is 1 to 256, the start variable is one of them, and the last two fields are 0.
 pub record InRange (s : List ℕ) : Type 0 where
   pub variables-in : (1 ≤ variablesOf s) × (variablesOf s ≤ 256)
   pub start-in : (1 ≤ startOf s) × (startOf s ≤ variablesOf s)
   pub endmarker-in : endmarkerOf s ≤ 255
+  pub fourth-unused : numberAt s 1 3 ≡ 0
+  pub fifth-unused : numberAt s 1 4 ≡ 0
 
 pub header-in-range : (s : List ℕ) → headerOut s ≡ false → InRange s
 unfolding headerOut
-header-in-range s e = go (within 1 256 (variablesOf s)) (within 1 (variablesOf s) (startOf s)) (within 0 255 (endmarkerOf s)) refl refl refl e
-  where
-    go : (a b c : Bool) → within 1 256 (variablesOf s) ≡ a → within 1 (variablesOf s) (startOf s) ≡ b → within 0 255 (endmarkerOf s) ≡ c
-        → not (a && b && c && unused (numberAt s 1 3) && unused (numberAt s 1 4)) ≡ false → InRange s
-    go false b c p q r f = absurd (false≢true (sym f))
-    go true false c p q r f = absurd (false≢true (sym f))
-    go true true false p q r f = absurd (false≢true (sym f))
-    go true true true p q r f =
-        record {
-          variables-in = within-bounds 1 256 (variablesOf s) p;
-          start-in = within-bounds 1 (variablesOf s) (startOf s) q;
-          endmarker-in = within-bounds 0 255 (endmarkerOf s) r .1;
-        }
+header-in-range s e =
+    let t = and-eq-true-iff _ (unused (numberAt s 1 4)) .0 (not-false _ e) in
+    let u = and-eq-true-iff _ (unused (numberAt s 1 3)) .0 (t .0) in
+    let w = and-eq-true-iff _ (within 0 255 (endmarkerOf s)) .0 (u .0) in
+    let z = and-eq-true-iff (within 1 256 (variablesOf s)) (within 1 (variablesOf s) (startOf s)) .0 (w .0) in
+    record {
+      variables-in = within-bounds 1 256 (variablesOf s) (z .0);
+      start-in = within-bounds 1 (variablesOf s) (startOf s) (z .1);
+      endmarker-in = within-bounds 0 255 (endmarkerOf s) (w .1) .1;
+      fourth-unused = eqb-true (numberAt s 1 3) 0 (u .1);
+      fifth-unused = eqb-true (numberAt s 1 4) 0 (t .1);
+    }
 
 -- ---- What the parts make of the whole.
 

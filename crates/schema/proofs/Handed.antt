@@ -1,13 +1,12 @@
 -- What an accepted call was handed: an accepted sheet, a pair within, slices that are long enough. Assumes nothing.
-use mathlib.Core.Bool.{Bool, true, false, _||_}
+use mathlib.Core.Bool.{Bool, false, _||_}
 use mathlib.Core.List.{List, _++_}
 use mathlib.Core.Option.{Option, some}
-use mathlib.Core.Path.{_≡_, refl, sym, ap, _∙_, subst}
+use mathlib.Core.Path.{_≡_, sym, ap, _∙_, subst}
 use Prim.Native.Nat.{ℕ, _*_, _≤_}
 use lib.Dec.{ltb}
 use lib.ListN.{length}
 use borrow.Author.Tests.{ltb-false, not-false}
-use Rattle.calls.proofs.Clash.{clash}
 use Rattle.grammar.specs.Refusal.{accepted}
 use Rattle.grammar.specs.Rule.{within}
 use Rattle.grammar.specs.Sheet.{Grammar, grammarOf, sheetFaults, sheet}
@@ -15,12 +14,8 @@ use Rattle.schema.specs.Derivation.{Pair, _at_}
 use Rattle.schema.specs.Handed.{Handed, tested, pairVariableOut, pairPositionOut, callFaults, handed}
 use Rattle.schema.specs.Table.{cells}
 use Rattle.grammar.proofs.Refusals.{Clear, clear-append, accepted-clear, accepted-same}
-use Rattle.grammar.proofs.Fitting.{within-bounds}
+use Rattle.grammar.proofs.Fitting.{neither-true, within-bounds}
 use Rattle.schema.proofs.Cell.{PairWithin}
-
-pub neither-true : (a b : Bool) → a || b ≡ false → (a ≡ false) × (b ≡ false)
-neither-true true b e = absurd (clash (cc))
-neither-true false b e = (refl, e)
 
 -- A test of something handed over.
 tested-is : {A : Type 0} (o : Option A) (out : A → Bool) (a : A) → o ≡ some a → tested o out ≡ false → out a ≡ false
