@@ -1,5 +1,5 @@
 -- What an accepted sheet says of its lines and rules. Assumes nothing.
-use mathlib.Core.Path.{_≡_, refl, ap, sym, _∙_, subst}
+use mathlib.Core.Path.{_≡_, refl, sym, subst}
 use mathlib.Core.Bool.{Bool, true, false, cond, _&&_, false≢true, and-eq-true-iff}
 use mathlib.Core.List.{List, [], _∷_}
 use mathlib.Core.Option.{Option, none, some, Option·getD}
@@ -9,9 +9,10 @@ use lib.Dec.{eqb}
 use borrow.Author.Tests.{eqb-true}
 use Rattle.grammar.specs.Refusal.{accepted}
 use Rattle.grammar.specs.Rule.{Rule, absent, always, never, byte, class, call, within, unused, fitting, ruleOf, Fits}
-use Rattle.grammar.specs.Sheet.{Grammar, lines, isNone, variablesOf, numberAt, variableAt, ruleAt, ruleWithin, grammarOf, malformed, ruleFaults, sheetFaults, sheet}
+use Rattle.grammar.specs.Sheet.{Grammar, lines, isNone, variablesOf, numberAt, variableAt, ruleAt, ruleWithin, grammarOf, malformed, condition, ruleOrder, sheetOrder, sheet}
+use Rattle.grammar.specs.Order.{NoneHolds}
 use Rattle.grammar.specs.Printing.{ruleNumbers}
-use Rattle.grammar.proofs.Refusals.{clash, Clear, accepted-clear, accepted-same}
+use Rattle.grammar.proofs.Refusals.{clash, accepted-same, accepted-none}
 use Rattle.grammar.proofs.Fitting.{within-bounds}
 use Rattle.grammar.proofs.Progress.{VariableFits, not-out}
 use Rattle.grammar.proofs.Whole.{Whole, lines-whole, InRange, header-in-range}
@@ -27,8 +28,8 @@ pub some-of : {A : Type 0} (o : Option A) → isNone o ≡ false → (a : A) × 
 some-of none e = absurd (false≢true (sym e))
 some-of (some a) e = (a, refl)
 
-lines-fit : (s : List ℕ) (n k : ℕ) → Clear (ruleFaults s n k) → (i : ℕ) → i < k → LineFits s (i + n)
-unfolding ruleFaults
+lines-fit : (s : List ℕ) (n k : ℕ) → NoneHolds (condition s) (ruleOrder n k) → (i : ℕ) → i < k → LineFits s (i + n)
+unfolding ruleOrder condition
 lines-fit s n zero c i l = absurd (omega arith)
 lines-fit s n (suc k) c zero l =
     let e : 0 + n ≡ n = omega arith in
@@ -47,12 +48,11 @@ pub record Describes (s : List ℕ) (g : Grammar) : Type 0 where
   pub fit : (i : ℕ) → i < lines s - 1 → LineFits s (i + 2)
 
 pub describes : (s : List ℕ) (g : Grammar) → sheet s ≡ accepted g → Describes s g
-unfolding sheet sheetFaults
+unfolding sheet sheetOrder condition
 describes s g e =
-    let same = accepted-same (sheetFaults s) (grammarOf s) g e in
-    let c = accepted-clear (sheetFaults s) (grammarOf s) .0 (e ∙ ap accepted (sym same)) in
+    let c = accepted-none (condition s) (sheetOrder s) (grammarOf s) g e in
     record {
-      grammar-is = same;
+      grammar-is = accepted-same (condition s) (sheetOrder s) (grammarOf s) g e;
       whole = lines-whole s (c .0);
       formed = c .1 .0;
       in-range = header-in-range s (c .1 .1 .0);

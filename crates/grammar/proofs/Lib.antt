@@ -14,5 +14,4 @@ pub mod Told
 pub mod Text
 pub mod Printed
 pub mod Sheets
-pub mod Conditions
 pub mod SheetRefusals
