@@ -8,14 +8,15 @@ use native.Mathlib.Decide.{decLt}
 use native.Mathlib.Omega.{arith}
 use lib.ListN.{length, getElem?, length-append}
 use borrow.Author.Tests.{not-false}
+use Rattle.grammar.specs.Order.{NoneHolds}
 use Rattle.grammar.specs.Rule.{Rule}
 use Rattle.grammar.specs.Sheet.{Grammar}
-use Rattle.grammar.proofs.Refusals.{Clear, clear-append}
+use Rattle.grammar.proofs.Refusals.{none-append}
 use Rattle.schema.specs.Line.{Line, numbered}
-use Rattle.checker.specs.Checker.{lineAt, earlierLine, follows, faultsAt, lineFaults}
+use Rattle.checker.specs.Checker.{lineAt, earlierLine, follows, lineCondition, lineOrder, linesOrder}
 use Rattle.checker.specs.Proper.{EachFollows, no-line, one-more}
 use Rattle.checker.proofs.Lookup.{Begins, in-front, at-end, earlier-lines}
-use Rattle.checker.proofs.Progress.{clear-both, Passed}
+use Rattle.checker.proofs.Progress.{Passed}
 use Rattle.checker.proofs.Relation.{follows-relation}
 
 -- A line that is of the form and follows.
@@ -24,15 +25,17 @@ pub record Right (rule : ℕ → Rule) (v : ℕ) (input s : List ℕ) (n : ℕ) 
   pub formed : lineAt s n ≡ some right
   pub given : follows rule v input (earlierLine s n) (some right) ≡ true
 
-module _ (rule : ℕ → Rule) (v : ℕ) (input s : List ℕ) (n : ℕ) where
-  pub right-line : Clear (faultsAt rule v input s n) → Right rule v input s n
-  right-line c = go (lineAt s n) refl
+module _ (rule : ℕ → Rule) (v : ℕ) (input s : List ℕ) (k : ℕ) where
+  pub right-line : NoneHolds (lineCondition rule v input s) (lineOrder (suc k)) → Right rule v input s (suc k)
+  unfolding lineCondition
+  right-line c = go (lineAt s (suc k)) refl
     where
-      go : (o : Option Line) → lineAt s n ≡ o → Right rule v input s n
+      go : (o : Option Line) → lineAt s (suc k) ≡ o → Right rule v input s (suc k)
       go none e = absurd (true≢false (rw e at (c .0)))
       go (some l) e = record { right = l; formed = e; given = not-false _ (rw e at (c .1 .0)) }
 
-  clear-line : Right rule v input s n → Clear (faultsAt rule v input s n)
+  clear-line : Right rule v input s (suc k) → NoneHolds (lineCondition rule v input s) (lineOrder (suc k))
+  unfolding lineCondition
   clear-line r = (rw (r .formed), (rw (r .formed, r .given), tt))
 
 module _ (g : Grammar) (input s : List ℕ) where
@@ -66,25 +69,26 @@ module _ (g : Grammar) (input s : List ℕ) where
 
   -- Lines that pass follow.
   pub passed-lines : (k : ℕ) → Passed (g .rule) (g .variables) input s k → Lines k
-  unfolding lineFaults
+  unfolding linesOrder
   passed-lines zero p = record { list = []; size = refl; begins = λ i h. absurd (omega arith); each = no-line }
   passed-lines (suc k) p =
-      let b = clear-append (lineFaults (g .rule) (g .variables) input s k) (faultsAt (g .rule) (g .variables) input s (suc k)) p in
-      more-lines k (passed-lines k (b .0)) (right-line (g .rule) (g .variables) input s (suc k) (b .1))
+      let b = none-append (lineCondition (g .rule) (g .variables) input s) (linesOrder k) (lineOrder (suc k)) .0 p in
+      more-lines k (passed-lines k (b .0)) (right-line (g .rule) (g .variables) input s k (b .1))
 
   -- Lines that follow pass.
   pub passes-lines : {ls : List Line} → EachFollows g input ls → Begins s ls → Passed (g .rule) (g .variables) input s (length ls)
-  unfolding lineFaults
+  unfolding linesOrder
   passes-lines no-line h = tt
   passes-lines (one-more {earlier} {l} each f) h =
       let n : length (earlier ++ l ∷ []) ≡ suc (length earlier) = length-append earlier (l ∷ []) ∙ omega arith in
       let front : Begins s earlier = λ i y. h i (omega arith) ∙ in-front earlier (l ∷ []) i y in
       rw n
-      (clear-both (lineFaults (g .rule) (g .variables) input s (length earlier)) (faultsAt (g .rule) (g .variables) input s (suc (length earlier)))
-      (passes-lines each front)
-      (clear-line (g .rule) (g .variables) input s (suc (length earlier))
-      record {
-        right = l;
-        formed = h (length earlier) (omega arith) ∙ at-end earlier l;
-        given = rw (earlier-lines s earlier front) (follows-relation earlier (g .rule) (g .variables) input l .1 f);
-      }))
+      (none-append (lineCondition (g .rule) (g .variables) input s) (linesOrder (length earlier)) (lineOrder (suc (length earlier))) .1 (
+        passes-lines each front,
+        clear-line (g .rule) (g .variables) input s (length earlier)
+            record {
+              right = l;
+              formed = h (length earlier) (omega arith) ∙ at-end earlier l;
+              given = rw (earlier-lines s earlier front) (follows-relation earlier (g .rule) (g .variables) input l .1 f);
+            },
+      ))

@@ -9,16 +9,18 @@ use lib.Dec.{eqb, leb}
 use lib.ListN.{length}
 use borrow.Author.Tests.{eqb-true, eq-eqb, not-false}
 use Rattle.calls.proofs.Clash.{clash}
-use Rattle.grammar.specs.Refusal.{accepted, fault}
+use Rattle.grammar.specs.Refusal.{accepted}
 use Rattle.grammar.specs.Rule.{Rule, within}
 use Rattle.grammar.specs.Sheet.{Grammar}
-use Rattle.grammar.proofs.Refusals.{Clear, clear-append, accepted-clear, accepted-same}
+use Rattle.grammar.proofs.Refusals.{accepted-clear, accepted-same, accepted-none, none-append}
 use Rattle.schema.specs.Derivation.{Pair, _at_, Result, success, failure, act}
 use Rattle.schema.specs.Line.{Line, line, lineOf, numbered}
-use Rattle.checker.specs.Checker.{lines, lineAt, resultBy, follows, faultsAt, lineFaults, otherPair, certificateFaults, Claimed, claimOf, judged}
+use Rattle.checker.specs.Checker.{lines, lineAt, resultBy, follows, otherPair, lineCondition, certificateCondition, lineOrder, linesOrder, certificateOrder, Claimed, claimOf, lastFound, judged}
+use Rattle.checker.specs.Steps.{linesFound}
 use Rattle.checker.specs.Proper.{Proper, claimed}
 use Rattle.checker.proofs.EachLine.{right-line, passed-lines, passes-lines}
-use Rattle.checker.proofs.Progress.{clear-both, Passed}
+use Rattle.checker.proofs.Progress.{Passed, ends}
+use Rattle.checker.proofs.CheckRefusals.{lines-alone, judged-parts}
 use Rattle.checker.proofs.Relation.{says-line}
 
 -- The line of a pair and a result: it is no other pair's, and claims the result.
@@ -53,30 +55,30 @@ module _ (g : Grammar) (input s : List ℕ) (x : Pair) where
     passed : Passed (g .rule) (g .variables) input s (lines s)
     last : otherPair x (lineAt s (lines s)) ≡ false
 
-  clear-passes : Clear (certificateFaults (g .rule) (g .variables) input x s) → Passes
-  unfolding certificateFaults
-  clear-passes c =
-      let b = clear-append (lineFaults (g .rule) (g .variables) input s (lines s)) (fault 14 0 (otherPair x (lineAt s (lines s))) ∷ []) (c .1) in
-      record { whole = eqb-true _ _ (not-false _ (c .0)); passed = b .0; last = b .1 .0 }
-
-  passes-clear : Passes → Clear (certificateFaults (g .rule) (g .variables) input x s)
-  unfolding certificateFaults
-  passes-clear p =
-      let lines-clear = p .passed in
-      let last-clear : Clear (fault 14 0 (otherPair x (lineAt s (lines s))) ∷ []) = (p .last, tt) in
-      (rw (eq-eqb (length s % 49) 0 (p .whole)), clear-both (lineFaults (g .rule) (g .variables) input s (lines s)) _ lines-clear last-clear)
+  judged-passes : (c : Claimed) → judged (g .rule) (g .variables) input x s ≡ accepted c → Passes
+  unfolding judged certificateCondition certificateOrder lineCondition linesFound
+  judged-passes c e =
+      let holds = certificateCondition (g .rule) (g .variables) input x s in
+      let n = accepted-none holds (certificateOrder s) (claimOf (lineAt s (lines s))) c e in
+      let b = none-append holds (linesOrder (lines s)) ((14, 0) ∷ []) .0 (n .1) in
+      let found = sym (lines-alone (g .rule) (g .variables) input x s (lines s)) ∙ accepted-clear holds (linesOrder (lines s)) tt .1 (b .0) in
+      record {
+        whole = eqb-true _ _ (not-false _ (n .0));
+        passed = accepted-none (lineCondition (g .rule) (g .variables) input s) (linesOrder (lines s)) tt tt found;
+        last = b .1 .0;
+      }
 
   -- What passes is proper, and claims the result.
   proper-of : Passes → (t : Result) × (claimOf (lineAt s (lines s)) ≡ claimed x t) × Proper g input s x t
-  unfolding lineFaults lineAt
+  unfolding linesOrder lineAt
   proper-of p = go (lines s) refl
     where
       go : (k : ℕ) → lines s ≡ k → (t : Result) × (claimOf (lineAt s (lines s)) ≡ claimed x t) × Proper g input s x t
       go zero e = let n = no-pair x in let l = rw e at (p .last) in absurd (clash (cc))
       go (suc m) e =
           let passed : Passed (g .rule) (g .variables) input s (suc m) = rw e at (p .passed) in
-          let c = clear-append (lineFaults (g .rule) (g .variables) input s m) (faultsAt (g .rule) (g .variables) input s (suc m)) passed in
-          let r = right-line (g .rule) (g .variables) input s (suc m) (c .1) in
+          let c = none-append (lineCondition (g .rule) (g .variables) input s) (linesOrder m) (lineOrder (suc m)) .0 passed in
+          let r = right-line (g .rule) (g .variables) input s m (c .1) in
           let f = r .formed in
           let y = pair-line (g .rule) (g .variables) input _ x (r .right) (rw (e, f) at (p .last)) (r .given) in
           let ls = passed-lines g input s (suc m) passed in
@@ -122,13 +124,14 @@ module _ (g : Grammar) (input s : List ℕ) (x : Pair) where
   pub judged-proper : (c : Claimed) → judged (g .rule) (g .variables) input x s ≡ accepted c → (t : Result) × (c ≡ claimed x t) × Proper g input s x t
   unfolding judged
   judged-proper c e =
-      let fs = certificateFaults (g .rule) (g .variables) input x s in
-      let same = accepted-same fs (claimOf (lineAt s (lines s))) c e in
-      let y = proper-of (clear-passes (accepted-clear fs (claimOf (lineAt s (lines s))) .0 (e ∙ ap accepted (sym same)))) in
+      let same = accepted-same _ (certificateOrder s) (claimOf (lineAt s (lines s))) c e in
+      let y = proper-of (judged-passes c e) in
       (y .0, sym same ∙ y .1, y .2)
 
   pub proper-judged : (t : Result) → Proper g input s x t → judged (g .rule) (g .variables) input x s ≡ accepted (claimed x t)
-  unfolding judged
+  unfolding lastFound
   proper-judged t p =
       let y = passes-of t p in
-      accepted-clear (certificateFaults (g .rule) (g .variables) input x s) (claimOf (lineAt s (lines s))) .1 (passes-clear (y .0)) ∙ ap accepted (y .1)
+      let k = y .0 in
+      judged-parts (g .rule) (g .variables) input x s (k .whole)
+      ∙ rw (← ends (g .rule) (g .variables) input s (lines s) (k .passed), k .last) (ap accepted (y .1))

@@ -7,13 +7,13 @@ use Rattle.columns.specs.Column.{leading, column, row, digitsAfter, number, fie
 use Rattle.grammar.specs.Class.{classIn, classOf}
 use Rattle.grammar.specs.Refusal.{Checked, refused, accepted, checked}
 use Rattle.grammar.specs.Rule.{ruleOf}
-use Rattle.grammar.specs.Sheet.{lineAt, ruleWithin, openLine, notLines, headerOut, variableOut, ruleFaults, sheetFaults}
+use Rattle.grammar.specs.Sheet.{lineAt, ruleWithin, openLine, notLines, headerOut, variableOut, condition, ruleOrder, sheetOrder}
 use Rattle.grammar.specs.Printing.{text}
 use Rattle.schema.specs.Cases.{sheetH, firstPair}
 use Rattle.schema.specs.Derivation.{actOf}
-use Rattle.schema.specs.Handed.{callFaults}
+use Rattle.schema.specs.Handed.{callCondition, handedCondition, handedOrder}
 use Rattle.schema.specs.Line.{Line, line, linesBytes}
-use Rattle.checker.specs.Checker.{lineAt as certificateLine, follows, lineFaults, certificateFaults, Claimed, succeeds, check, checkFaults}
+use Rattle.checker.specs.Checker.{lineAt as certificateLine, follows, lineCondition, certificateCondition, checkCondition, linesOrder, certificateOrder, checkOrder, Claimed, succeeds, check}
 
 -- A certificate's bytes, and what the checker is to make of them for case a.
 pub record Example : Type 0 where
@@ -53,6 +53,7 @@ examples =
 
 -- The definitions give each answer.
 pub examples-hold : map (λ (e : Example). check (text sheetH) (45 ∷ 54 ∷ 46 ∷ []) firstPair (e .bytes)) examples ≡ map (λ (e : Example). e .answer) examples
-unfolding examples text leading column row linesBytes digitsAfter number field fields lineAt openLine notLines headerOut variableOut ruleFaults sheetFaults
-    ruleOf ruleWithin callFaults checked classIn classOf actOf certificateLine follows lineFaults certificateFaults check checkFaults
+unfolding examples text leading column row linesBytes digitsAfter number field fields lineAt openLine notLines headerOut variableOut condition ruleOrder sheetOrder
+    ruleOf ruleWithin callCondition handedCondition handedOrder checked classIn classOf actOf certificateLine follows lineCondition certificateCondition checkCondition
+    linesOrder certificateOrder checkOrder check
 examples-hold = refl

@@ -7,11 +7,11 @@ use Prim.Native.Nat.{ℕ, zero, suc, _+_, _*_, _/_, _%_}
 use lib.Dec.{ltb, leb, eqb}
 use lib.ListN.{length, getD}
 use Rattle.columns.specs.Column.{fields}
-use Rattle.grammar.specs.Refusal.{Checked, refused, accepted, Fault, fault, checked}
+use Rattle.grammar.specs.Refusal.{Checked, refused, accepted, checked, from}
 use Rattle.grammar.specs.Rule.{Rule, within}
-use Rattle.grammar.specs.Sheet.{grammarOf, sheetFaults, isNone}
+use Rattle.grammar.specs.Sheet.{grammarOf, isNone}
 use Rattle.schema.specs.Derivation.{Pair, _at_, Result, success, failure, Act, gives, stops, calls, act, second}
-use Rattle.schema.specs.Handed.{asked, handedCondition, callFaults}
+use Rattle.schema.specs.Handed.{asked, handedCondition, handedOrder}
 use Rattle.schema.specs.Line.{Line, line}
 use Rattle.checker.specs.declared.Claim.{Claim}
 use Rattle.checker.specs.declared.Claim.the-variants.{Success, Failure, Refused}
@@ -73,39 +73,49 @@ follows rule v input earlier (some (line A p flag e i j)) =
 
 -- ---- "The maker of a reading".
 
--- "12, .. a field or line end not of that form. 13, a line that doesn't follow, a third field above 1 included": of line n.
-abbrev pub faultsAt : (ℕ → Rule) → ℕ → List ℕ → List ℕ → ℕ → List Fault
-faultsAt rule v input s n =
-    fault 12 n (isNone (lineAt s n)) ∷ fault 13 n (not (follows rule v input (earlierLine s n) (lineAt s n))) ∷ []
-
--- "each line for 12, 13": the first k lines.
-unfoldable pub lineFaults : (ℕ → Rule) → ℕ → List ℕ → List ℕ → ℕ → List Fault
-lineFaults rule v input s zero = []
-lineFaults rule v input s (suc k) = lineFaults rule v input s k ++ faultsAt rule v input s (suc k)
+-- "12, length not a multiple of 49 (line 0), or a field or line end not of that form."
+abbrev pub malformed : List ℕ → ℕ → Bool
+malformed s zero = not (eqb (length s % 49) 0)
+malformed s (suc k) = isNone (lineAt s (suc k))
 
 -- "14, no lines, or the last is another pair."
 abbrev pub otherPair : Pair → Option Line → Bool
 otherPair (A at p) none = true
 otherPair (A at p) (some (line B q flag e i j)) = not (eqb B A && eqb q p)
 
--- The condition of a refusal by its number, at a line (0 for the whole length, and for 14).
-unfoldable pub certificateCondition : (ℕ → Rule) → ℕ → List ℕ → Pair → List ℕ → ℕ → ℕ → Bool
-certificateCondition rule v input x s number n =
-    cond (eqb number 12) (cond (eqb n 0) (not (eqb (length s % 49) 0)) (isNone (lineAt s n)))
+-- The condition of 12 and of 13 at a line: "13, a line that doesn't follow, a third field above 1 included."
+unfoldable pub lineCondition : (ℕ → Rule) → ℕ → List ℕ → List ℕ → ℕ → ℕ → Bool
+lineCondition rule v input s number n =
+    cond (eqb number 12) (malformed s n)
     (cond (eqb number 13) (not (follows rule v input (earlierLine s n) (lineAt s n)))
-    (cond (eqb number 14) (otherPair x (lineAt s (lines s)))
-    false))
+    false)
+
+-- The condition of a certificate's refusal by its number, at a line.
+unfoldable pub certificateCondition : (ℕ → Rule) → ℕ → List ℕ → Pair → List ℕ → ℕ → ℕ → Bool
+certificateCondition rule v input x s = from 14 (λ number n. eqb number 14 && otherPair x (lineAt s (lines s))) (lineCondition rule v input s)
 
 -- The condition of each refusal of the checker: 1 to 11 are the question's.
 unfoldable pub checkCondition : List ℕ → List ℕ → Pair → List ℕ → ℕ → ℕ → Bool
-checkCondition sheet input x s number n =
+checkCondition sheet input x s =
     let g = grammarOf sheet in
-    cond (ltb number 12) (handedCondition sheet (asked input x) number n) (certificateCondition (g .rule) (g .variables) input x s number n)
+    from 12 (certificateCondition (g .rule) (g .variables) input x s) (handedCondition sheet (asked input x))
 
--- "12, length not a multiple of 49 (line 0)"; "its length, then each line for 12, 13, then 14."
-unfoldable pub certificateFaults : (ℕ → Rule) → ℕ → List ℕ → Pair → List ℕ → List Fault
-certificateFaults rule v input x s =
-    fault 12 0 (not (eqb (length s % 49) 0)) ∷ lineFaults rule v input s (lines s) ++ fault 14 0 (otherPair x (lineAt s (lines s))) ∷ []
+-- "each line for 12, 13"
+abbrev pub lineOrder : ℕ → List (ℕ × ℕ)
+lineOrder n = (12, n) ∷ (13, n) ∷ []
+
+-- The first k lines.
+unfoldable pub linesOrder : ℕ → List (ℕ × ℕ)
+linesOrder zero = []
+linesOrder (suc k) = linesOrder k ++ lineOrder (suc k)
+
+-- "its length, then each line for 12, 13, then 14."
+unfoldable pub certificateOrder : List ℕ → List (ℕ × ℕ)
+certificateOrder s = (12, 0) ∷ linesOrder (lines s) ++ (14, 0) ∷ []
+
+-- "A reading comes after these": refusals 1 to 6, 8 and 9 come first.
+unfoldable pub checkOrder : List ℕ → List ℕ → List (ℕ × ℕ)
+checkOrder sheet s = handedOrder sheet ++ certificateOrder s
 
 -- "The checker returns the outcome and end in the last line; these are what a passed reading claims": success or failure, with the end.
 pub data Claimed : Type 0 where
@@ -118,21 +128,15 @@ claimOf (some (line A p flag e i j)) = cond (eqb flag 0) (succeeds e) (fails e)
 
 -- 14, or the claim of the last line.
 unfoldable pub lastFound : Pair → Option Line → Checked Claimed
-lastFound x l = checked (fault 14 0 (otherPair x l) ∷ []) (claimOf l)
+lastFound x l = cond (otherPair x l) (refused 14 0) (accepted (claimOf l))
 
 -- What the rules make of a certificate for a pair.
 unfoldable pub judged : (ℕ → Rule) → ℕ → List ℕ → Pair → List ℕ → Checked Claimed
-judged rule v input x s = checked (certificateFaults rule v input x s) (claimOf (lineAt s (lines s)))
-
--- "A reading comes after these": refusals 1 to 6, 8 and 9 come first.
-unfoldable pub checkFaults : List ℕ → List ℕ → Pair → List ℕ → List Fault
-checkFaults sheet input x s =
-    let g = grammarOf sheet in
-    sheetFaults sheet ++ callFaults g (asked input x) ++ certificateFaults (g .rule) (g .variables) input x s
+judged rule v input x s = checked (certificateCondition rule v input x s) (certificateOrder s) (claimOf (lineAt s (lines s)))
 
 -- The first refusal, or the claim.
 unfoldable pub check : List ℕ → List ℕ → Pair → List ℕ → Checked Claimed
-check sheet input x s = checked (checkFaults sheet input x s) (claimOf (lineAt s (lines s)))
+check sheet input x s = checked (checkCondition sheet input x s) (checkOrder sheet s) (claimOf (lineAt s (lines s)))
 
 -- What each case of the answer says.
 abbrev pub told : Claim → Checked Claimed

@@ -7,7 +7,7 @@ use Rattle.grammar.specs.Refusal.{Checked, refused, accepted, checked}
 use Rattle.grammar.specs.Rule.{Rule}
 use Rattle.schema.specs.Derivation.{Result, success, failure}
 use Rattle.schema.specs.Line.{Line, line}
-use Rattle.checker.specs.Checker.{faultsAt, lineFaults}
+use Rattle.checker.specs.Checker.{lineCondition, lineOrder, linesOrder}
 use Rattle.checker.specs.declared.Line.{Line as Held}
 use Rattle.checker.specs.declared.Parsed.{Parsed}
 use Rattle.checker.specs.declared.Parsed.the-variants as parsed
@@ -44,8 +44,8 @@ testSays (tested.Refused number n) = refused number n
 
 -- The first refusal of one line.
 unfoldable pub lineFound : (ℕ → Rule) → ℕ → List ℕ → List ℕ → ℕ → Checked (Unit {0})
-lineFound rule v input s n = checked (faultsAt rule v input s n) tt
+lineFound rule v input s n = checked (lineCondition rule v input s) (lineOrder n) tt
 
 -- The first refusal of the first k lines.
 unfoldable pub linesFound : (ℕ → Rule) → ℕ → List ℕ → List ℕ → ℕ → Checked (Unit {0})
-linesFound rule v input s k = checked (lineFaults rule v input s k) tt
+linesFound rule v input s k = checked (lineCondition rule v input s) (linesOrder k) tt

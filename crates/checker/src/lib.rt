@@ -59,15 +59,14 @@ fn read_fields(line: &[u8]) -> Parsed
     ensures { λ r. ⌜ lineRead r ≡ lineFrom (fields 6 8 (now (line .entry)) 0) ⌝ }
 {
     let mut numbers = [0u32; 6];
-    let mut at: usize = 0;
+    let mut here = Cursor { at: 0 };
     let mut k: usize = 0;
     while k < 6 {
-        let here = Cursor { at };
         let Field::Number(x, next) = here.eight(line) else {
             return Parsed::Malformed;
         };
         numbers[k] = x;
-        at = next.at;
+        here = next;
         k += 1;
     }
     Parsed::Read(Line {

@@ -8,8 +8,11 @@ use native.Mathlib.Omega.{arith}
 use lib.ListN.{length, take, drop, getD, set, length-set}
 use lib.Seq.{slice, length-slice, take-take, take-nil, drop-nil, take-suc-set, take-all}
 use borrow.Author.Tests.{le-leb, lt-leb}
-use Rattle.columns.specs.Column.{field, fields, number, consTo}
-use Rattle.columns.proofs.Fields.{Numbered, Faulty, row-fault, row-more}
+use Rattle.columns.specs.Column.{field, fields, number, consTo, reads, told}
+use Rattle.columns.specs.declared.Cursor.{Cursor}
+use Rattle.columns.specs.declared.Field.{Field}
+use Rattle.columns.specs.declared.Field.the-variants.{Number, Fault}
+use Rattle.columns.proofs.Fields.{number-found, fault-found, row-fault, row-more}
 
 -- Numbers before what is still to be read.
 unfoldable pub before : List ℕ → Option (List ℕ) → Option (List ℕ)
@@ -31,38 +34,42 @@ unfolding before
 before-more [] x rest = refl
 before-more (y ∷ xs) x rest = ap (consTo (some y)) (before-more xs x rest)
 
--- k of all fields are read: they stand at the beginning of numbers, and the rest is to be read from at.
-pub record Reading (w all : ℕ) (s numbers : List ℕ) (at k : ℕ) : Type 0 where
+-- k of all fields are read: they stand at the beginning of numbers, and the rest is to be read from the cursor on.
+pub record Reading (w all : ℕ) (s numbers : List ℕ) (here : Cursor) (k : ℕ) : Type 0 where
   pub room : length numbers ≡ all
   pub so-far : k ≤ all
-  pub rest : fields all w s 0 ≡ before (take k numbers) (fields (all - k) w s at)
+  pub rest : fields all w s 0 ≡ before (take k numbers) (fields (all - k) w s (here .at))
 
 module _ (w all : ℕ) (s : List ℕ) where
-  pub starts : (numbers : List ℕ) → length numbers ≡ all → Reading w all s numbers 0 0
+  pub starts : (numbers : List ℕ) → length numbers ≡ all → Reading w all s numbers (record { at = 0 }) 0
   unfolding before
   starts numbers e = let z : all - 0 ≡ all = omega arith in record { room = e; so-far = omega arith; rest = ap (λ (m : ℕ). fields m w s 0) (sym z) }
 
-  module _ {numbers : List ℕ} {at k : ℕ} (r : Reading w all s numbers at k) where
+  module _ {numbers : List ℕ} {here : Cursor} {k : ℕ} (r : Reading w all s numbers here k) where
     -- The next field is no number,
-    pub stops : k < all → Faulty w s at → fields all w s 0 ≡ none
-    stops l f =
-        let e : all - k ≡ suc (all - k - 1) = omega arith in
-        r .rest ∙ ap (before (take k numbers)) (ap (λ (m : ℕ). fields m w s at) e ∙ row-fault w s (all - k - 1) f .row) ∙ before-none (take k numbers)
+    pub stops : {answer : Field} → k < all → told answer ≡ reads w s (here .at) → answer ≡ Fault → fields all w s 0 ≡ none
+    stops l says e =
+        let n : all - k ≡ suc (all - k - 1) = omega arith in
+        r .rest ∙ ap (before (take k numbers)) (ap (λ (m : ℕ). fields m w s (here .at)) n ∙ row-fault w s (all - k - 1) (fault-found w s (here .at) says e) .row)
+        ∙ before-none (take k numbers)
 
-    -- or one.
-    pub reads-on : {x next : ℕ} → k < all → Numbered w s at x next → Reading w all s (set numbers k x) next (k + 1)
-    reads-on {x} {next} l f =
-        let e : all - k ≡ suc (all - (k + 1)) = omega arith in
+    -- or one, with the cursor at the next.
+    pub reads-on : {answer : Field} {x : ℕ} {next : Cursor} → k < all → told answer ≡ reads w s (here .at) → answer ≡ Number x next
+        → Reading w all s (set numbers k x) next (k + 1)
+    reads-on {answer} {x} {next} l says e =
+        let n : all - k ≡ suc (all - (k + 1)) = omega arith in
         let m = r .room in
         let i : k < length numbers = omega arith in
         let one : k + 1 ≡ suc k = omega arith in
+        let left = fields (all - (k + 1)) w s (next .at) in
         record {
           room = length-set numbers k x ∙ m;
           so-far = omega arith;
           rest =
-              r .rest ∙ ap (before (take k numbers)) (ap (λ (j : ℕ). fields j w s at) e ∙ row-more w s f (record { row = refl }) .row)
-              ∙ before-more (take k numbers) x (fields (all - (k + 1)) w s next)
-              ∙ ap (λ (xs : List ℕ). before xs (fields (all - (k + 1)) w s next)) (sym (ap (λ (j : ℕ). take j (set numbers k x)) one ∙ take-suc-set numbers k x i));
+              r .rest
+              ∙ ap (before (take k numbers)) (ap (λ (j : ℕ). fields j w s (here .at)) n ∙ row-more w s (number-found w s (here .at) says e) (record { row = refl }) .row)
+              ∙ before-more (take k numbers) x left
+              ∙ ap (λ (xs : List ℕ). before xs left) (sym (ap (λ (j : ℕ). take j (set numbers k x)) one ∙ take-suc-set numbers k x i));
         }
 
     -- All are read.
@@ -71,7 +78,7 @@ module _ (w all : ℕ) (s : List ℕ) where
     all-read e =
         let z : all - k ≡ 0 = omega arith in
         let m = r .room in
-        r .rest ∙ ap (before (take k numbers)) (ap (λ (j : ℕ). fields j w s at) z) ∙ before-all (take k numbers)
+        r .rest ∙ ap (before (take k numbers)) (ap (λ (j : ℕ). fields j w s (here .at)) z) ∙ before-all (take k numbers)
         ∙ ap some (take-all k numbers (omega arith))
 
 -- A list of five numbers.
@@ -87,7 +94,7 @@ five-of (a ∷ b ∷ c ∷ d ∷ e ∷ f ∷ l) h = absurd (omega arith)
 -- ---- Fields of a part.
 
 -- A part by its start and its length.
-part-is : (a n : ℕ) (s : List ℕ) → take n (drop a s) ≡ slice a (a + n) s
+pub part-is : (a n : ℕ) (s : List ℕ) → take n (drop a s) ≡ slice a (a + n) s
 part-is zero n s = let z : 0 + n ≡ n = omega arith in rw z refl
 part-is (suc a) n [] = take-nil n ∙ sym (ap (drop (suc a)) (take-nil (suc a + n)))
 part-is (suc a) n (x ∷ s) = let e : suc a + n ≡ suc (a + n) = omega arith in rw e (part-is a n s)

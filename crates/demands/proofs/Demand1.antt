@@ -28,7 +28,7 @@ use Rattle.memo.specs.declared.Judgement.the-variants.{Recognised, Partial, Fai
 use Rattle.backtrack.specs.Run as run
 use Rattle.backtrack.specs.declared.Ending.{Ending}
 use Rattle.checker.specs.Checker as checker
-use Rattle.checker.specs.Checker.{Checks, checkCondition, checkFaults}
+use Rattle.checker.specs.Checker.{Checks, checkCondition, checkOrder}
 use Rattle.checker.specs.declared.Claim.{Claim}
 use Rattle.checker.proofs.CheckRefusals.{check-refused-exactly}
 use Rattle.demands.specs.Demands.{Refuses, verdictTold}
@@ -128,7 +128,7 @@ verdict-follows s input table table′ work work′ r promise = record {
 -- ---- The checker, which is lent nothing.
 
 pub check-refused : (s input : List ℕ) (x : Pair) (reading : List ℕ) (r : Claim) → Checks s input x reading r
-    → (y l : ℕ) → (checker.told r ≡ refused y l) ↔ FirstHolds (checkCondition s input x reading) (checkFaults s input x reading) y l
+    → (y l : ℕ) → (checker.told r ≡ refused y l) ↔ FirstHolds (checkCondition s input x reading) (checkOrder s reading) y l
 check-refused s input x reading r promise y l =
     let c = check-refused-exactly s input x reading y l in
     (λ e. c .0 (sym promise ∙ e), λ f. promise ∙ c .1 f)

@@ -20,7 +20,7 @@ use Rattle.writer.specs.declared.Written.{Written}
 use Rattle.backtrack.specs.Run as run
 use Rattle.backtrack.specs.declared.Ending.{Ending}
 use Rattle.checker.specs.Checker as checker
-use Rattle.checker.specs.Checker.{Checks, checkCondition, checkFaults}
+use Rattle.checker.specs.Checker.{Checks, checkCondition, checkOrder}
 use Rattle.checker.specs.Proper.{Proper, Claims}
 use Rattle.checker.specs.declared.Claim.{Claim}
 use Rattle.demands.specs.Demands.{Refuses, verdictTold, Demand3}
@@ -65,7 +65,7 @@ demand-1-write s input A p table table′ work work′ out out′ r promise x l 
 
 -- The checker.
 pub demand-1-check : (s input : List ℕ) (x : Pair) (reading : List ℕ) (r : Claim) → Checks s input x reading r
-    → (y l : ℕ) → (checker.told r ≡ refused y l) ↔ FirstHolds (checkCondition s input x reading) (checkFaults s input x reading) y l
+    → (y l : ℕ) → (checker.told r ≡ refused y l) ↔ FirstHolds (checkCondition s input x reading) (checkOrder s reading) y l
 demand-1-check = one.check-refused
 
 -- ---- Demand 2. "Success and failure come where it derives them and nowhere else": `outcome-exactly` of demand 3.

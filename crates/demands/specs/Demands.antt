@@ -1,14 +1,14 @@
 -- Document 00, sentence by sentence, of any results that meet the contracts of the calls. Assumes nothing.
-use mathlib.Core.List.{List, _++_}
+use mathlib.Core.List.{List}
 use mathlib.Core.Logic.{_↔_}
 use mathlib.Core.Path.{_≡_}
 use Prim.Native.Nat.{ℕ, _≤_}
 use lib.ListN.{length}
 use Rattle.grammar.specs.Refusal.{Checked, refused, accepted}
 use Rattle.grammar.specs.Order.{FirstHolds}
-use Rattle.grammar.specs.Sheet.{Grammar, grammarOf, sheetFaults}
+use Rattle.grammar.specs.Sheet.{Grammar}
 use Rattle.schema.specs.Derivation.{Pair, success, failure, Outcome, result, Has}
-use Rattle.schema.specs.Handed.{Handed, handedCondition, callFaults}
+use Rattle.schema.specs.Handed.{Handed, handedCondition, handedOrder}
 use Rattle.schema.specs.Machine.{says, ran, machine}
 use Rattle.schema.specs.Reached.{Reached, Number}
 use Rattle.schema.specs.Table.{cells, Holds}
@@ -25,7 +25,7 @@ use Rattle.checker.specs.declared.Claim.{Claim}
 
 -- The first condition that holds, of a call that is handed h, is that of the number x at the line l.
 abbrev pub Refuses : List ℕ → Handed → ℕ → ℕ → Type 0
-Refuses s h x l = FirstHolds (handedCondition s h) (sheetFaults s ++ callFaults (grammarOf s) h) x l
+Refuses s h x l = FirstHolds (handedCondition s h) (handedOrder s) x l
 
 -- A refusal with its number and line, or the numbers of a verdict.
 abbrev pub verdictTold : Judgement → Checked (List ℕ)

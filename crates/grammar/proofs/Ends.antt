@@ -1,12 +1,13 @@
 -- The ends of a sheet's lines. Assumes nothing.
-use mathlib.Core.Path.{_≡_, refl, sym}
-use mathlib.Core.Bool.{Bool, true, false, _||_}
+use mathlib.Core.Path.{_≡_, refl, sym, _∙_}
+use mathlib.Core.Bool.{Bool, true, false, _||_, true≢false}
 use mathlib.Core.List.{List}
 use Prim.Native.Nat.{ℕ, zero, suc, _+_, _-_, _*_, _<_}
 use native.Mathlib.Omega.{arith}
 use native.Mathlib.Numerals.{add-one}
+use lib.Dec.{eqb}
 use lib.ListN.{getD}
-use borrow.Author.Tests.{eq-eqb, ne-eqb}
+use borrow.Author.Tests.{eqb-true, eqb-false, eq-eqb, ne-eqb}
 use Rattle.grammar.specs.Sheet.{openLine}
 
 pub no-lines : (s : List ℕ) → openLine s 0 ≡ false
@@ -38,3 +39,11 @@ pub open-found : (s : List ℕ) (k count : ℕ) → k < count → (getD s (26 * 
 open-found s k count h f =
     let z : (count - suc k) + suc k ≡ count = omega arith in
     sym (rw z at (stays-open s (suc k) (count - suc k) (line-open s k f)))
+
+-- Where no line is open, each is ended.
+pub all-ended : (s : List ℕ) (k count : ℕ) → k < count → openLine s count ≡ false → getD s (26 * k + 25) 0 ≡ 10
+all-ended s k count h e = go (eqb (getD s (26 * k + 25) 0) 10) refl
+  where
+    go : (t : Bool) → eqb (getD s (26 * k + 25) 0) 10 ≡ t → getD s (26 * k + 25) 0 ≡ 10
+    go true p = eqb-true (getD s (26 * k + 25) 0) 10 p
+    go false p = absurd (true≢false (open-found s k count h (eqb-false (getD s (26 * k + 25) 0) 10 p) ∙ e))

@@ -1,14 +1,19 @@
 -- Which kinds and operands fit, and the words of their rules. Assumes nothing.
 use mathlib.Core.Path.{_≡_, refl, ap, sym}
-use mathlib.Core.Bool.{Bool, true, false, cond, _&&_, false≢true, and-false}
+use mathlib.Core.Bool.{Bool, true, false, cond, _&&_, _||_, false≢true, and-false}
 use mathlib.Core.Option.{none, some, Option·map}
 use Prim.Native.Nat.{ℕ, zero, suc, _+_, _≤_, _<_}
 use native.Mathlib.Omega.{arith}
 use lib.Dec.{leb, eqb}
 use borrow.Author.Tests.{ne-eqb, leb-true, le-leb, lt-leb}
 use Rattle.grammar.specs.Rule.{Rule, always, never, byte, class, call, within, unused, fitting, ruleOf}
-use Rattle.grammar.specs.Words.{bytes, word}
+use Rattle.grammar.specs.Words.{fourBytes, word}
 use Rattle.grammar.specs.Reading.{leafWord}
+
+-- Neither of two tests is true.
+pub neither-true : (a b : Bool) → a || b ≡ false → (a ≡ false) × (b ≡ false)
+neither-true true b e = absurd (false≢true (sym e))
+neither-true false b e = (refl, e)
 
 -- A number within bounds is between them.
 pub within-bounds : (low high x : ℕ) → within low high x ≡ true → (low ≤ x) × (x ≤ high)
@@ -41,7 +46,7 @@ unfolding ruleOf
 call-fits v x y z {a} {b} {c} p q r = rw (p, q, r) (sym (map-fitting (a && b && c) (call x y z)))
 
 -- A rule with no operand, and one with the first alone.
-no-operand : (kind : ℕ) (r : Rule) (x : ℕ) → word r ≡ bytes (kind + 1) 0 0 0 → leafWord kind 0 0 x ≡ Option·map word (fitting (unused x && true && true) r)
+no-operand : (kind : ℕ) (r : Rule) (x : ℕ) → word r ≡ fourBytes (kind + 1) 0 0 0 → leafWord kind 0 0 x ≡ Option·map word (fitting (unused x && true && true) r)
 no-operand kind r zero e = ap some (sym e)
 no-operand kind r (suc x) e = rw (le-leb 0 (suc x) (omega arith), lt-leb (suc x) 0 (omega arith), ne-eqb (suc x) 0 (λ z. omega arith))
 

@@ -9,7 +9,7 @@ use borrow.Author.Tests.{not-true, not-false, le-leb, lt-leb}
 use Rattle.columns.specs.Column.{fields}
 use Rattle.grammar.specs.Refusal.{Checked, refused, accepted, checked}
 use Rattle.grammar.specs.Rule.{within, unused}
-use Rattle.grammar.specs.Sheet.{lineAt, headerOut}
+use Rattle.grammar.specs.Sheet.{lineAt, headerOut, condition}
 use Rattle.grammar.specs.Reading.{numbersOf, headerFound}
 use Rattle.grammar.specs.declared.sheet.Line.{Line}
 
@@ -38,9 +38,9 @@ headerBy a b c d e xs = cond (not (a && b && c && d && e)) (refused 3 1) (accept
 pub header-found : (s : List ℕ) {v start endmarker x y : ℕ} {a b c d e : Bool} → lineAt s 1 ≡ some (v ∷ start ∷ endmarker ∷ x ∷ y ∷ [])
     → within 1 256 v ≡ a → within 1 v start ≡ b → within 0 255 endmarker ≡ c → unused x ≡ d → unused y ≡ e
     → headerBy a b c d e (v ∷ start ∷ endmarker ∷ []) ≡ headerFound s
-unfolding headerFound checked headerOut
+unfolding headerFound checked condition headerOut
 header-found s line p q r t u = rw line (rw (p, q, r, t, u))
 
 pub malformed-header : (s : List ℕ) → lineAt s 1 ≡ none → refused 2 1 ≡ headerFound s
-unfolding headerFound checked
+unfolding headerFound checked condition
 malformed-header s e = rw e

@@ -8,22 +8,22 @@ use lib.ListN.{length, List·getD-eq-default}
 use Rattle.grammar.specs.Refusal.{accepted}
 use Rattle.grammar.specs.Rule.{Rule, absent, always, never, byte, class, call, Fits}
 use Rattle.grammar.specs.Sheet.{Grammar, sheet}
-use Rattle.grammar.specs.Words.{bytes, word, words, ruleFor, ruleIn}
+use Rattle.grammar.specs.Words.{fourBytes, word, words, ruleFor, ruleIn}
 use Rattle.grammar.proofs.Words.{words-length, word-at}
 use Rattle.grammar.proofs.Accepted.{grammar-fits, grammar-absent, grammar-in-range}
 
 -- The bytes of a word.
 module _ (a b c d : ℕ) (lb : b ≤ 255) (lc : c ≤ 255) (ld : d ≤ 255) where
-  highest : bytes a b c d / 16777216 ≡ a
+  highest : fourBytes a b c d / 16777216 ≡ a
   highest = omega arith
 
-  second : bytes a b c d / 65536 % 256 ≡ b
+  second : fourBytes a b c d / 65536 % 256 ≡ b
   second = omega arith
 
-  third : bytes a b c d / 256 % 256 ≡ c
+  third : fourBytes a b c d / 256 % 256 ≡ c
   third = omega arith
 
-  lowest : bytes a b c d % 256 ≡ d
+  lowest : fourBytes a b c d % 256 ≡ d
   lowest = omega arith
 
 -- The word of a rule that fits is that rule's.

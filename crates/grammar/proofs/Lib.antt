@@ -13,5 +13,5 @@ pub mod Held
 pub mod Told
 pub mod Text
 pub mod Printed
-pub mod Conditions
+pub mod Sheets
 pub mod SheetRefusals

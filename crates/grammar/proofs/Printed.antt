@@ -11,10 +11,11 @@ use borrow.Author.Tests.{eqb-true, ne-eqb, lt-leb}
 use Rattle.columns.proofs.Rows.{Fit}
 use Rattle.grammar.specs.Refusal.{accepted}
 use Rattle.grammar.specs.Rule.{Rule, absent, always, never, byte, class, call, ruleOf, Fits}
-use Rattle.grammar.specs.Sheet.{lines, lineAt, variablesOf, variableAt, variableBefore, ruleAt, ruleWithin, grammarOf, notLines, malformed, headerOut, variableOut, ruleFaults, sheetFaults, sheet}
+use Rattle.grammar.specs.Sheet.{lines, lineAt, variablesOf, variableAt, variableBefore, ruleAt, ruleWithin, grammarOf, notLines, malformed, headerOut, variableOut, condition, ruleOrder, sheetOrder, sheet}
+use Rattle.grammar.specs.Order.{NoneHolds}
 use Rattle.grammar.specs.Printing.{text, headerNumbers, ruleNumbers, ruleRows, printed, listed, listedGrammar, Rising, Printable}
 use Rattle.grammar.proofs.Fitting.{within-both}
-use Rattle.grammar.proofs.Refusals.{Clear, accepted-clear}
+use Rattle.grammar.proofs.Refusals.{accepted-clear}
 use Rattle.grammar.proofs.Text.{Lines, LinesAt, text-read, text-lines, text-ended}
 
 -- ---- One rule, of v variables.
@@ -68,8 +69,8 @@ module _ (s : List ℕ) (few : variablesOf s ≤ 256) where
 
   -- No line is refused.
   rules-clear : (n b : ℕ) (rs : List (ℕ × Rule)) → 2 ≤ n → variableBefore s n ≡ b → Rising (variablesOf s) b rs → LinesAt s n (ruleRows rs)
-      → Clear (ruleFaults s n (length rs))
-  unfolding ruleFaults variableOut
+      → NoneHolds (condition s) (ruleOrder n (length rs))
+  unfolding ruleOrder condition variableOut
   rules-clear n b [] low e h t = tt
   rules-clear n b (r ∷ rs) low e h t =
       let w = here n b r rs h t in
@@ -132,7 +133,7 @@ module _ {v start endmarker : ℕ} {rules : List (ℕ × Rule)} (p : Printable v
   -- Lines that are read as the numbers of a grammar are that grammar's sheet.
   lines-printed : (s : List ℕ) → notLines s ≡ false → lines s - 1 ≡ length rules → lineAt s 1 ≡ some (headerNumbers v start endmarker)
       → LinesAt s 2 (ruleRows rules) → sheet s ≡ accepted (listedGrammar v start endmarker rules)
-  unfolding sheet sheetFaults headerOut ruleWithin
+  unfolding sheet sheetOrder condition headerOut ruleWithin
   lines-printed s whole count line rest =
       let a = p .variables-in in
       let b = p .start-in in
@@ -145,8 +146,8 @@ module _ {v start endmarker : ℕ} {rules : List (ℕ × Rule)} (p : Printable v
       rw (count, ← z) (fun-ext (λ A. rules-listed s few 0 0 A rules refl rising rest)) in
       let header-in : headerOut s ≡ false =
       rw line (rw (within-both 1 256 v (a .0) (a .1), within-both 1 v start (b .0) (b .1), within-both 0 255 endmarker (omega arith) c)) in
-      let clear : Clear (sheetFaults s) = (whole, (rw line, (header-in, rw count (rules-clear s few 2 0 rules (omega arith) refl rising rest)))) in
-      accepted-clear (sheetFaults s) (grammarOf s) .1 clear
+      let clear : NoneHolds (condition s) (sheetOrder s) = (whole, (rw line, (header-in, rw count (rules-clear s few 2 0 rules (omega arith) refl rising rest)))) in
+      accepted-clear (condition s) (sheetOrder s) (grammarOf s) .1 clear
       ∙ rw line (ap (λ (f : ℕ → Rule). accepted (record { variables = v; start = start; endmarker = endmarker; rule = f })) rules-are)
 
   -- A sheet that is printed from a grammar is read as that grammar.

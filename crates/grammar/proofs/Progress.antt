@@ -1,25 +1,24 @@
 -- What is so before each rule line is read. Assumes nothing.
 use mathlib.Core.Path.{_≡_, refl, ap, sym, _∙_}
-use mathlib.Core.Bool.{Bool, true, false, cond, not, _||_, false≢true}
+use mathlib.Core.Bool.{false, not}
 use mathlib.Core.List.{List, [], _∷_}
 use mathlib.Core.Option.{Option·getD}
 use Prim.Native.Nat.{ℕ, suc, _+_, _-_, _≤_, _<_}
 use native.Mathlib.Omega.{arith}
-use lib.Dec.{leb}
 use lib.ListN.{set}
-use borrow.Author.Tests.{ne-eqb, eq-eqb}
+use borrow.Author.Tests.{ne-eqb, eq-eqb, leb-false, not-false}
 use Rattle.grammar.specs.Refusal.{Checked, refused, accepted, checked}
 use Rattle.grammar.specs.Rule.{absent, within}
-use Rattle.grammar.specs.Sheet.{lines, variablesOf, variableAt, variableBefore, ruleAt, ruleWithin, malformed, variableOut, ruleOut, ruleFaults}
+use Rattle.grammar.specs.Sheet.{lines, variablesOf, variableAt, variableBefore, ruleAt, ruleWithin, variableOut, condition, lineOrder, ruleOrder}
 use Rattle.grammar.specs.Words.{word, words}
 use Rattle.grammar.specs.Reading.{lineFound, rulesFound, Ready}
-use Rattle.grammar.proofs.Refusals.{clash}
-use Rattle.grammar.proofs.Fitting.{within-bounds}
+use Rattle.grammar.proofs.Refusals.{then, accepted-same, accepted-none, checked-then}
+use Rattle.grammar.proofs.Fitting.{neither-true, within-bounds}
 use Rattle.grammar.proofs.Words.{words-set}
 
 -- What k lines from line n on make of the sheet.
 abbrev pub remaining : List ℕ → ℕ → ℕ → Checked (Unit {0})
-remaining s n k = checked (ruleFaults s n k) tt
+remaining s n k = checked (condition s) (ruleOrder n k) tt
 
 -- Before line n, of as many lines as count: the rules of the lines before it are stored, and it is for the lines from n on to refuse.
 pub record Progress (s : List ℕ) (count : ℕ) (stored : List ℕ) (n before : ℕ) : Type 0 where
@@ -36,41 +35,34 @@ pub record Accepted (s : List ℕ) (n A w : ℕ) : Type 0 where
   pub word-is : w ≡ word (Option·getD (ruleAt s n) absent)
   pub onward : (k : ℕ) → remaining s n (suc k) ≡ remaining s (suc n) k
 
-pub not-out : (s : List ℕ) (n : ℕ) → variableOut s n ≡ false → (1 ≤ variableAt s n) × (variableAt s n ≤ variablesOf s)
+-- A variable that is accepted.
+pub record VariableFits (s : List ℕ) (n : ℕ) : Type 0 where
+  pub above : variableBefore s n < variableAt s n
+  pub low : 1 ≤ variableAt s n
+  pub high : variableAt s n ≤ variablesOf s
+
+pub not-out : (s : List ℕ) (n : ℕ) → variableOut s n ≡ false → VariableFits s n
 unfolding variableOut
-not-out s n e = go (within 1 (variablesOf s) (variableAt s n)) refl e
-  where
-    go : (t : Bool) → within 1 (variablesOf s) (variableAt s n) ≡ t → (not t || leb (variableAt s n) (variableBefore s n)) ≡ false
-        → (1 ≤ variableAt s n) × (variableAt s n ≤ variablesOf s)
-    go true p f = within-bounds 1 (variablesOf s) (variableAt s n) p
-    go false p f = absurd (false≢true (sym f))
+not-out s n e =
+    let t = neither-true (not (within 1 (variablesOf s) (variableAt s n))) _ e in
+    let b = within-bounds 1 (variablesOf s) (variableAt s n) (not-false _ (t .0)) in
+    record { above = leb-false (variableAt s n) (variableBefore s n) (t .1); low = b .0; high = b .1 }
+
+-- One line, and then those behind it.
+remaining-more : (s : List ℕ) (n k : ℕ) → remaining s n (suc k) ≡ then (lineFound s n) (remaining s (suc n) k)
+unfolding ruleOrder lineFound
+remaining-more s n k = checked-then (condition s) (lineOrder n) (ruleOrder (suc n) k) _ tt
 
 pub line-accepted : (s : List ℕ) (n A w : ℕ) → accepted (A ∷ w ∷ []) ≡ lineFound s n → Accepted s n A w
-unfolding lineFound checked ruleFaults
-line-accepted s n A w e = go (malformed s n) (variableOut s n) (ruleOut s n) refl refl refl e
-  where
-    go : (a b c : Bool) → malformed s n ≡ a → variableOut s n ≡ b → ruleOut s n ≡ c
-        → accepted (A ∷ w ∷ []) ≡ cond a (refused 2 n) (cond b (refused 4 n) (cond c (refused 5 n) (accepted (variableAt s n ∷ word (Option·getD (ruleAt s n) absent) ∷ []))))
-        → Accepted s n A w
-    go true b c p q r f = absurd (clash (cc))
-    go false true c p q r f = absurd (clash (cc))
-    go false false true p q r f = absurd (clash (cc))
-    go false false false p q r f =
-        let u : A ≡ variableAt s n = cc in
-        let i = not-out s n q in
-        record { variable-is = u; variable-in = (omega arith, omega arith); word-is = cc; onward = λ k. rw (p, q, r) }
+unfolding lineFound condition
+line-accepted s n A w e =
+    let same = accepted-same (condition s) (lineOrder n) _ (A ∷ w ∷ []) (sym e) in
+    let u : A ≡ variableAt s n = cc in
+    let i = not-out s n (accepted-none (condition s) (lineOrder n) _ (A ∷ w ∷ []) (sym e) .1 .0) in
+    record { variable-is = u; variable-in = (omega arith, omega arith); word-is = cc; onward = λ k. remaining-more s n k ∙ rw (← e) }
 
 pub line-refused : (s : List ℕ) (n x k : ℕ) → refused x n ≡ lineFound s n → refused x n ≡ remaining s n (suc k)
-unfolding lineFound checked ruleFaults
-line-refused s n x k e = go (malformed s n) (variableOut s n) (ruleOut s n) e
-  where
-    go : (a b c : Bool)
-        → refused x n ≡ cond a (refused 2 n) (cond b (refused 4 n) (cond c (refused 5 n) (accepted (variableAt s n ∷ word (Option·getD (ruleAt s n) absent) ∷ []))))
-        → refused x n ≡ cond a (refused 2 n) (cond b (refused 4 n) (cond c (refused 5 n) (remaining s (suc n) k)))
-    go true b c f = let z : x ≡ 2 = cc in ap (λ (y : ℕ). refused y n) z
-    go false true c f = let z : x ≡ 4 = cc in ap (λ (y : ℕ). refused y n) z
-    go false false true f = let z : x ≡ 5 = cc in ap (λ (y : ℕ). refused y n) z
-    go false false false f = absurd (clash (cc))
+line-refused s n x k e = sym (remaining-more s n k ∙ rw (← e))
 
 -- ---- The beginning, a step, and the end.
 
@@ -123,7 +115,7 @@ goes-on s count stored n before A w few l p a =
 
 pub ends : (s : List ℕ) (count : ℕ) (stored : List ℕ) (n before : ℕ) → count ≡ lines s → count < n → Progress s count stored n before
     → (accepted tt ≡ rulesFound s) × (stored ≡ words (ruleWithin s (lines s - 1)))
-unfolding checked ruleFaults
+unfolding checked ruleOrder
 ends s count stored n before c l p =
     let low = p .low in
     let high = p .high in

@@ -1,67 +1,137 @@
 -- A refusal comes exactly under its condition, with no condition that comes earlier in the order. Assumes nothing.
 use mathlib.Core.Path.{_≡_, refl, ap, sym, _∙_}
-use mathlib.Core.Bool.{true, false, true≢false}
-use mathlib.Core.List.{List, [], _∷_, _++_}
+use mathlib.Core.Bool.{Bool, true, false, cond, true≢false}
+use mathlib.Core.List.{List, [], _∷_, _++_, append-nil}
 use mathlib.Core.Logic.{_↔_}
-use Prim.Native.Nat.{ℕ}
+use Prim.Native.Nat.{ℕ, _≤_, _<_}
 use native.Mathlib.Omega.{arith}
-use Rattle.grammar.specs.Refusal.{refused, accepted, Fault, fault, checked}
-
--- None of the faults is there.
-abbrev pub Clear : List Fault → Type 0
-Clear [] = Unit {0}
-Clear (fault x l h ∷ fs) = (h ≡ false) × Clear fs
-
--- The first fault that is there has the number x and the line l.
-abbrev pub First : ℕ → ℕ → List Fault → Type 0
-First x l [] = ⊥
-First x l (fault y m true ∷ fs) = (x ≡ y) × (l ≡ m)
-First x l (fault y m false ∷ fs) = First x l fs
+use borrow.Author.Tests.{lt-ltb, le-ltb}
+use Rattle.grammar.specs.Refusal.{Checked, refused, accepted, checked, from}
+use Rattle.grammar.specs.Order.{NoneHolds, FirstHolds}
 
 -- Two cases that differ are never equal: `clash (cc)` where an equation says so.
 pub clash : _≡_ {A = ℕ} 0 1 → ⊥
 clash z = omega arith
 
--- Refused with a number and a line exactly if they are those of the first fault.
-pub refused-first : {A : Type 0} (fs : List Fault) (a : A) (x l : ℕ) → checked fs a ≡ refused x l ↔ First x l fs
+-- What is refused stays so; what is accepted leaves it to the other.
+abbrev pub then : {A B : Type 0} → Checked A → Checked B → Checked B
+then (refused x l) c = refused x l
+then (accepted a) c = c
+
+-- ---- The first condition that holds.
+
+module _ (condition : ℕ → ℕ → Bool) where
+  first-holds : {A : Type 0} (rs : List (ℕ × ℕ)) (a : A) (x l : ℕ) → checked condition rs a ≡ refused x l → FirstHolds condition rs x l
+  unfolding checked
+  first-holds [] a x l e = absurd (clash (cc))
+  first-holds (r ∷ rs) a x l e = go (condition (r .0) (r .1)) refl e (first-holds rs a x l)
+    where
+      go : (t : Bool) → condition (r .0) (r .1) ≡ t → cond t (refused (r .0) (r .1)) (checked condition rs a) ≡ refused x l
+          → (checked condition rs a ≡ refused x l → FirstHolds condition rs x l) → FirstHolds condition (r ∷ rs) x l
+      go true p f rest =
+          let n : r .0 ≡ x = cc in
+          let m : r .1 ≡ l = cc in
+          record { before = []; after = rs; order = rw (← n, ← m); holds = rw (n, m) at p; none-before = tt }
+      go false p f rest =
+          let k = rest f in
+          record {
+            before = r ∷ k .before;
+            after = k .after;
+            order = ap (λ (qs : List (ℕ × ℕ)). r ∷ qs) (k .order);
+            holds = k .holds;
+            none-before = (p, k .none-before);
+          }
+
+  holds-first : {A : Type 0} (before after : List (ℕ × ℕ)) (a : A) (x l : ℕ) → condition x l ≡ true → NoneHolds condition before
+      → checked condition (before ++ (x, l) ∷ after) a ≡ refused x l
+  unfolding checked
+  holds-first [] after a x l h n = rw h
+  holds-first (r ∷ rs) after a x l h n = rw (n .0) (holds-first rs after a x l h (n .1))
+
+  -- Refused with a number and a line exactly if theirs is the first condition that holds.
+  pub refused-exactly : {A : Type 0} (rs : List (ℕ × ℕ)) (a : A) (x l : ℕ) → checked condition rs a ≡ refused x l ↔ FirstHolds condition rs x l
+  refused-exactly rs a x l = (first-holds rs a x l, λ f. rw (f .order) (holds-first (f .before) (f .after) a x l (f .holds) (f .none-before)))
+
+  -- Accepted exactly if no condition holds.
+  pub accepted-clear : {A : Type 0} (rs : List (ℕ × ℕ)) (a : A) → checked condition rs a ≡ accepted a ↔ NoneHolds condition rs
+  unfolding checked
+  accepted-clear [] a = (λ e. tt, λ n. refl)
+  accepted-clear (r ∷ rs) a = go (condition (r .0) (r .1)) (accepted-clear rs a)
+    where
+      go : (t : Bool) → checked condition rs a ≡ accepted a ↔ NoneHolds condition rs
+          → cond t (refused (r .0) (r .1)) (checked condition rs a) ≡ accepted a ↔ ((t ≡ false) × NoneHolds condition rs)
+      go true i = (λ e. absurd (clash (cc)), λ n. absurd (true≢false (n .0)))
+      go false i = (λ e. (refl, i .0 e), λ n. i .1 (n .1))
+
+  -- What is accepted is what was offered.
+  pub accepted-same : {A : Type 0} (rs : List (ℕ × ℕ)) (a b : A) → checked condition rs a ≡ accepted b → a ≡ b
+  unfolding checked
+  accepted-same [] a b e = cc
+  accepted-same (r ∷ rs) a b e = go (condition (r .0) (r .1)) e (accepted-same rs a b)
+    where
+      go : (t : Bool) → cond t (refused (r .0) (r .1)) (checked condition rs a) ≡ accepted b → (checked condition rs a ≡ accepted b → a ≡ b) → a ≡ b
+      go true f rest = absurd (clash (cc))
+      go false f rest = rest f
+
+  pub accepted-none : {A : Type 0} (rs : List (ℕ × ℕ)) (a b : A) → checked condition rs a ≡ accepted b → NoneHolds condition rs
+  accepted-none rs a b e = accepted-clear rs a .0 (e ∙ ap accepted (sym (accepted-same rs a b e)))
+
+  -- One order after another: the one behind is asked only where the one in front is clear, whatever that would accept.
+  pub checked-then : {A B : Type 0} (rs qs : List (ℕ × ℕ)) (a : A) (b : B) → checked condition (rs ++ qs) b ≡ then (checked condition rs a) (checked condition qs b)
+  unfolding checked
+  checked-then [] qs a b = refl
+  checked-then (r ∷ rs) qs a b = go (condition (r .0) (r .1)) (checked-then rs qs a b)
+    where
+      go : (t : Bool) → checked condition (rs ++ qs) b ≡ then (checked condition rs a) (checked condition qs b)
+          → cond t (refused (r .0) (r .1)) (checked condition (rs ++ qs) b) ≡ then (cond t (refused (r .0) (r .1)) (checked condition rs a)) (checked condition qs b)
+      go true i = refl
+      go false i = i
+
+  -- What is refused does not depend on what would be accepted.
+  pub checked-whatever : {A B : Type 0} (rs : List (ℕ × ℕ)) (a : A) (b : B) → checked condition rs b ≡ then (checked condition rs a) (accepted b)
+  unfolding checked
+  checked-whatever rs a b = ap (λ (qs : List (ℕ × ℕ)). checked condition qs b) (sym (append-nil rs)) ∙ checked-then rs [] a b
+
+  pub none-append : (rs qs : List (ℕ × ℕ)) → NoneHolds condition (rs ++ qs) ↔ (NoneHolds condition rs × NoneHolds condition qs)
+  none-append [] qs = (λ n. (tt, n), λ n. n .1)
+  none-append (r ∷ rs) qs =
+      let i = none-append rs qs in
+      (λ n. let j = i .0 (n .1) in ((n .0, j .0), j .1), λ n. (n .0 .0, i .1 (n .0 .1, n .1)))
+
+-- ---- The numbers of an order.
+
+-- Each number is one of these.
+abbrev pub Each : (ℕ → Type 0) → List (ℕ × ℕ) → Type 0
+Each P [] = Unit {0}
+Each P (r ∷ rs) = P (r .0) × Each P rs
+
+pub each-append : (P : ℕ → Type 0) (rs qs : List (ℕ × ℕ)) → Each P rs → Each P qs → Each P (rs ++ qs)
+each-append P [] qs p q = q
+each-append P (r ∷ rs) qs p q = (p .0, each-append P rs qs (p .1) q)
+
+pub each-also : (P Q : ℕ → Type 0) (rs : List (ℕ × ℕ)) → ((x : ℕ) → P x → Q x) → Each P rs → Each Q rs
+each-also P Q [] f p = tt
+each-also P Q (r ∷ rs) f p = (f (r .0) (p .0), each-also P Q rs f (p .1))
+
+-- A refusal has one of the numbers.
+pub refused-each : {A : Type 0} (P : ℕ → Type 0) (condition : ℕ → ℕ → Bool) (rs : List (ℕ × ℕ)) (a : A) (x l : ℕ) → Each P rs
+    → checked condition rs a ≡ refused x l → P x
 unfolding checked
-refused-first [] a x l = (λ e. clash (cc), λ n. absurd n)
-refused-first (fault y m true ∷ fs) a x l = (λ e. (cc, cc), λ p. let q = p .0 in let r = p .1 in cc)
-refused-first (fault y m false ∷ fs) a x l = refused-first fs a x l
+refused-each P condition [] a x l p e = absurd (clash (cc))
+refused-each P condition (r ∷ rs) a x l p e = go (condition (r .0) (r .1)) e (refused-each P condition rs a x l (p .1))
+  where
+    go : (t : Bool) → cond t (refused (r .0) (r .1)) (checked condition rs a) ≡ refused x l → (checked condition rs a ≡ refused x l → P x) → P x
+    go true f rest = let n : r .0 ≡ x = cc in rw n at (p .0)
+    go false f rest = rest f
 
--- Accepted exactly if no fault is there.
-pub accepted-clear : {A : Type 0} (fs : List Fault) (a : A) → checked fs a ≡ accepted a ↔ Clear fs
-unfolding checked
-accepted-clear [] a = (λ e. tt, λ c. refl)
-accepted-clear (fault y m true ∷ fs) a = (λ e. absurd (clash (cc)), λ c. absurd (true≢false (c .0)))
-accepted-clear (fault y m false ∷ fs) a = (λ e. (refl, accepted-clear fs a .0 e), λ c. accepted-clear fs a .1 (c .1))
+-- Of the conditions of the numbers from `first` on and those below it, an order on one side asks only that side's.
+module _ {A : Type 0} (first : ℕ) (new old : ℕ → ℕ → Bool) (a : A) where
+  pub checked-below : (rs : List (ℕ × ℕ)) → Each (λ x. x < first) rs → checked (from first new old) rs a ≡ checked old rs a
+  unfolding checked
+  checked-below [] p = refl
+  checked-below (r ∷ rs) p = rw (lt-ltb (r .0) first (p .0), checked-below rs (p .1))
 
--- What is accepted is what was offered.
-pub accepted-same : {A : Type 0} (fs : List Fault) (a b : A) → checked fs a ≡ accepted b → a ≡ b
-unfolding checked
-accepted-same [] a b e = cc
-accepted-same (fault y m true ∷ fs) a b e = absurd (clash (cc))
-accepted-same (fault y m false ∷ fs) a b e = accepted-same fs a b e
-
--- Faults one after another: those behind are asked only where those in front are clear.
-pub clear-then : {A : Type 0} (fs gs : List Fault) (a : A) → Clear fs → checked (fs ++ gs) a ≡ checked gs a
-unfolding checked
-clear-then [] gs a c = refl
-clear-then (fault y m true ∷ fs) gs a c = absurd (true≢false (c .0))
-clear-then (fault y m false ∷ fs) gs a c = clear-then fs gs a (c .1)
-
-pub first-then : (x l : ℕ) (fs gs : List Fault) → First x l fs → First x l (fs ++ gs)
-first-then x l [] gs n = absurd n
-first-then x l (fault y m true ∷ fs) gs p = p
-first-then x l (fault y m false ∷ fs) gs p = first-then x l fs gs p
-
-pub clear-append : (fs gs : List Fault) → Clear (fs ++ gs) → Clear fs × Clear gs
-clear-append [] gs c = (tt, c)
-clear-append (fault y m h ∷ fs) gs c = let i = clear-append fs gs (c .1) in ((c .0, i .0), i .1)
-
--- Refusals do not depend on what would be accepted.
-pub refused-whatever : {A B : Type 0} (fs : List Fault) (a : A) (b : B) {x l : ℕ} → checked fs a ≡ refused x l → checked fs b ≡ refused x l
-refused-whatever fs a b {x} {l} e = refused-first fs b x l .1 (refused-first fs a x l .0 e)
-
-pub accepted-whatever : {A B : Type 0} (fs : List Fault) (a c : A) (b : B) → checked fs a ≡ accepted c → checked fs b ≡ accepted b
-accepted-whatever fs a c b e = accepted-clear fs b .1 (accepted-clear fs a .0 (e ∙ ap accepted (sym (accepted-same fs a c e))))
+  pub checked-from : (rs : List (ℕ × ℕ)) → Each (λ x. first ≤ x) rs → checked (from first new old) rs a ≡ checked new rs a
+  unfolding checked
+  checked-from [] p = refl
+  checked-from (r ∷ rs) p = rw (le-ltb (r .0) first (p .0), checked-from rs (p .1))

@@ -7,7 +7,7 @@ use Prim.Native.Nat.{ℕ}
 use lib.Dec.{leb}
 use Rattle.grammar.specs.Refusal.{Checked, refused, accepted, checked}
 use Rattle.grammar.specs.Rule.{Rule, absent, within, ruleOf}
-use Rattle.grammar.specs.Sheet.{lineAt, isNone, variablesOf, variableBefore, variableOut}
+use Rattle.grammar.specs.Sheet.{lineAt, isNone, variablesOf, variableBefore, variableOut, condition}
 use Rattle.grammar.specs.Words.{word}
 use Rattle.grammar.specs.Reading.{wordOf, lineFound}
 use Rattle.grammar.specs.declared.sheet.Fitting.{Fitting}
@@ -26,7 +26,7 @@ by-rule n A (some r) = refl
 pub line-found : (s : List ℕ) (n : ℕ) {A kind x y z v b : ℕ} {p q : Bool} {w : Option ℕ} → lineAt s n ≡ some (A ∷ kind ∷ x ∷ y ∷ z ∷ [])
     → v ≡ variablesOf s → b ≡ variableBefore s n → within 1 v A ≡ p → leb A b ≡ q → Option·map word (ruleOf v kind x y z) ≡ w
     → cond (not p || q) (refused 4 n) (byWord n A w) ≡ lineFound s n
-unfolding lineFound checked variableOut
+unfolding lineFound checked condition variableOut
 line-found s n {A} {kind} {x} {y} {z} {v} line e f g h i = rw (line, ← e, ← f, g, h, ← by-rule n A (ruleOf v kind x y z), i)
 
 -- A rule line whose variable is accepted, by the word that was found.
@@ -36,5 +36,5 @@ pub rule-found : (s : List ℕ) (n : ℕ) {A kind x y z v b : ℕ} {r variant : 
 rule-found s n line e f g h found k = line-found s n line e f g h (sym found ∙ ap wordOf k)
 
 pub malformed-line : (s : List ℕ) (n : ℕ) → lineAt s n ≡ none → refused 2 n ≡ lineFound s n
-unfolding lineFound checked
+unfolding lineFound checked condition
 malformed-line s n e = rw e

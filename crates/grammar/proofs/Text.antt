@@ -1,19 +1,20 @@
--- Lines that are given by their numbers: their text, and that they are read as these numbers. Assumes nothing.
-use mathlib.Core.Path.{_≡_, refl, ap, _∙_, subst}
+-- Lines that are given by their numbers: their text, that they are read as these numbers, and that what is so read is their text. Assumes nothing.
+use mathlib.Core.Path.{_≡_, refl, ap, sym, _∙_, subst}
 use mathlib.Core.Bool.{false}
 use mathlib.Core.List.{List, [], _∷_, _++_, append-assoc}
 use mathlib.Core.Option.{some}
-use Prim.Native.Nat.{ℕ, suc, _+_, _-_, _*_, _%_, _≤_}
+use Prim.Native.Nat.{ℕ, suc, _+_, _-_, _*_, _%_, _≤_, _<_}
 use native.Mathlib.Omega.{arith}
 use native.Mathlib.Nat.{add-zero, mul-zero, mul-suc}
-use lib.ListN.{length, getD, length-append}
-use lib.Seq.{getD-append-add}
+use lib.ListN.{length, drop, getD, length-append}
+use lib.Seq.{getD-append-add, drop-cons, drop-length}
 use borrow.Author.Tests.{eq-eqb, ne-eqb, le-ltb}
 use Rattle.columns.specs.Column.{column, row, fields}
-use Rattle.columns.proofs.Rows.{Fit, column-length, row-length, row-read}
+use Rattle.columns.proofs.Parts.{width}
+use Rattle.columns.proofs.Rows.{Fit, column-length, row-length, row-read, fields-row}
 use Rattle.grammar.specs.Sheet.{lines, lineAt, openLine, notLines}
 use Rattle.grammar.specs.Printing.{text}
-use Rattle.grammar.proofs.Ends.{no-lines, line-ended}
+use Rattle.grammar.proofs.Ends.{no-lines, line-ended, all-ended}
 
 -- Each line has five numbers that fit their columns.
 abbrev pub Lines : List (List ℕ) → Type 0
@@ -81,3 +82,20 @@ text-ended xss l low high =
     let z : 0 + length xss ≡ length xss = omega arith in
     rw (ne-eqb (length (text xss)) 0 (λ e. omega arith), eq-eqb (length (text xss) % 26) 0 (omega arith), le-ltb 257 (lines (text xss)) (omega arith), k)
     (rw z at (lines-read [] 0 xss l refl (no-lines (text xss)) .1))
+
+-- Lines that are read and ended, to the end of the bytes, are the text of their numbers.
+pub lines-text : (s : List ℕ) (n : ℕ) (xss : List (List ℕ)) → LinesAt s (n + 1) xss → length s ≡ 26 * (n + length xss) → openLine s (n + length xss) ≡ false
+    → drop (26 * n) s ≡ text xss
+unfolding text lineAt width
+lines-text s n [] t l o = let z : 26 * n ≡ length s = omega arith in rw z (drop-length s)
+lines-text s n (xs ∷ xss) t l o =
+    let k : 26 * (n + 1 - 1) ≡ 26 * n = omega arith in
+    let inside : 26 * n + 25 < length s = omega arith in
+    let next : suc (26 * n + 25) ≡ 26 * (n + 1) = omega arith in
+    let m : n + suc (length xss) ≡ n + 1 + length xss = omega arith in
+    let j : suc (n + 1) ≡ n + 1 + 1 = omega arith in
+    let end : drop (26 * n + 25) s ≡ 10 ∷ drop (26 * (n + 1)) s =
+    drop-cons s (26 * n + 25) 0 inside ∙ ap (λ (b : ℕ). b ∷ drop (suc (26 * n + 25)) s) (all-ended s n (n + suc (length xss)) (omega arith) o)
+    ∙ ap (λ (i : ℕ). 10 ∷ drop i s) next in
+    fields-row 5 5 s (26 * n) xs (drop (26 * (n + 1)) s) (rw k at (t .0)) end
+    ∙ ap (λ (r : List ℕ). row 5 xs ++ r) (lines-text s (n + 1) xss (rw j at (t .1)) (rw m at l) (rw m at o))

@@ -3,19 +3,18 @@ use mathlib.Core.Bool.{Bool, true, false}
 use mathlib.Core.List.{List, [], _∷_, _++_}
 use mathlib.Core.Path.{_≡_}
 use Prim.Native.Nat.{ℕ}
-use Rattle.grammar.specs.Refusal.{Fault, fault}
 
 -- The condition of each number at each line.
 module _ (condition : ℕ → ℕ → Bool) where
-  -- None of the conditions of these faults holds.
-  abbrev pub NoneHolds : List Fault → Type 0
+  -- None of the conditions of these numbers and lines holds.
+  abbrev pub NoneHolds : List (ℕ × ℕ) → Type 0
   NoneHolds [] = Unit {0}
-  NoneHolds (fault x l h ∷ fs) = (condition x l ≡ false) × NoneHolds fs
+  NoneHolds (r ∷ rs) = (condition (r .0) (r .1) ≡ false) × NoneHolds rs
 
-  -- In the order of these faults, the first condition that holds is that of the number x at the line l.
-  pub record FirstHolds (fs : List Fault) (x l : ℕ) : Type 0 where
-    pub before : List Fault
-    pub after : List Fault
-    pub order : fs ≡ before ++ fault x l (condition x l) ∷ after
+  -- In the order of these numbers and lines, the first condition that holds is that of the number x at the line l.
+  pub record FirstHolds (rs : List (ℕ × ℕ)) (x l : ℕ) : Type 0 where
+    pub before : List (ℕ × ℕ)
+    pub after : List (ℕ × ℕ)
+    pub order : rs ≡ before ++ (x, l) ∷ after
     pub holds : condition x l ≡ true
     pub none-before : NoneHolds before

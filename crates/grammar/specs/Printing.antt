@@ -54,3 +54,9 @@ pub record Printable (v start endmarker : ℕ) (rules : List (ℕ × Rule)) : Ty
   pub start-in : (1 ≤ start) × (start ≤ v)
   pub endmarker-in : endmarker ≤ 255
   pub rules-in : Rising v 0 rules
+
+-- The bytes are the sheet that is printed from these rules, which are those of the grammar.
+pub record PrintedFrom (g : Grammar) (rules : List (ℕ × Rule)) (s : List ℕ) : Type 0 where
+  pub printable : Printable (g .variables) (g .start) (g .endmarker) rules
+  pub prints : s ≡ printed (g .variables) (g .start) (g .endmarker) rules
+  pub rules-are : (A : ℕ) → listed rules A ≡ g .rule A

@@ -4,10 +4,10 @@ use mathlib.Core.List.{List, [], _∷_}
 use mathlib.Core.Option.{Option, none, some, Option·getD}
 use mathlib.Core.Path.{_≡_}
 use Prim.Native.Nat.{ℕ, _+_, _-_, _≤_}
-use Rattle.grammar.specs.Refusal.{Checked, refused, accepted, fault, checked}
+use Rattle.grammar.specs.Refusal.{Checked, refused, accepted, checked}
 use Rattle.grammar.specs.Rule.{absent, within}
-use Rattle.grammar.specs.Sheet.{lines, variablesOf, startOf, endmarkerOf, variableAt, variableBefore, ruleAt, ruleWithin, malformed, headerOut, variableOut, ruleOut, ruleFaults}
-use Rattle.grammar.specs.Words.{bytes, word, words}
+use Rattle.grammar.specs.Sheet.{lines, variablesOf, startOf, endmarkerOf, variableAt, variableBefore, ruleAt, ruleWithin, condition, headerOrder, lineOrder, ruleOrder}
+use Rattle.grammar.specs.Words.{fourBytes, word, words}
 use Rattle.grammar.specs.declared.sheet.Line.{Line}
 use Rattle.grammar.specs.declared.sheet.Line.the-variants.{Numbers, Malformed}
 use Rattle.grammar.specs.declared.sheet.Fitting.{Fitting}
@@ -31,7 +31,7 @@ wordOf Unfit = none
 
 -- The word of a rule with one operand at most.
 abbrev pub leafWord : ℕ → ℕ → ℕ → ℕ → Option ℕ
-leafWord kind least greatest x = cond (within least greatest x) (some (bytes (kind + 1) x 0 0)) none
+leafWord kind least greatest x = cond (within least greatest x) (some (fourBytes (kind + 1) x 0 0)) none
 
 -- "line 1 for 2, 3"
 abbrev pub headerSays : Header → Checked (List ℕ)
@@ -40,7 +40,7 @@ headerSays (header.Refused number) = refused number 1
 
 -- The first refusal of line 1, or its numbers.
 unfoldable pub headerFound : List ℕ → Checked (List ℕ)
-headerFound s = checked (fault 2 1 (malformed s 1) ∷ fault 3 1 (headerOut s) ∷ []) (variablesOf s ∷ startOf s ∷ endmarkerOf s ∷ [])
+headerFound s = checked (condition s) headerOrder (variablesOf s ∷ startOf s ∷ endmarkerOf s ∷ [])
 
 -- "each next line for 2, 4, 5": the variable of a line and the word of its rule.
 abbrev pub lineSays : ℕ → RuleLine → Checked (List ℕ)
@@ -49,9 +49,7 @@ lineSays n (line.Refused number) = refused number n
 
 -- The first refusal of a rule line, or its variable and word.
 unfoldable pub lineFound : List ℕ → ℕ → Checked (List ℕ)
-lineFound s n =
-    checked (fault 2 n (malformed s n) ∷ fault 4 n (variableOut s n) ∷ fault 5 n (ruleOut s n) ∷ [])
-    (variableAt s n ∷ word (Option·getD (ruleAt s n) absent) ∷ [])
+lineFound s n = checked (condition s) (lineOrder n) (variableAt s n ∷ word (Option·getD (ruleAt s n) absent) ∷ [])
 
 -- What is known before a rule line is read.
 pub record Before (s : List ℕ) (n variables before : ℕ) : Type 0 where
@@ -68,7 +66,7 @@ rulesSay (rules.Refused number n) = refused number n
 
 -- The first refusal of the rule lines.
 unfoldable pub rulesFound : List ℕ → Checked (Unit {0})
-rulesFound s = checked (ruleFaults s 2 (lines s - 1)) tt
+rulesFound s = checked (condition s) (ruleOrder 2 (lines s - 1)) tt
 
 -- The array after the rule lines; free where one is refused.
 abbrev pub Stored : List ℕ → RuleLines → List ℕ → Type 0

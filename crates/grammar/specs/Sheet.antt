@@ -1,12 +1,12 @@
 -- Document 01, "The rule sheet", with refusals 1 to 5. Assumes nothing.
 use mathlib.Core.Bool.{Bool, true, false, cond, not, _&&_, _||_}
-use mathlib.Core.List.{List, [], _∷_}
+use mathlib.Core.List.{List, [], _∷_, _++_}
 use mathlib.Core.Option.{Option, none, some, Option·getD}
 use Prim.Native.Nat.{ℕ, zero, suc, _+_, _-_, _*_, _/_, _%_}
 use lib.Dec.{ltb, leb, eqb}
 use lib.ListN.{length, getD}
 use Rattle.columns.specs.Column.{fields}
-use Rattle.grammar.specs.Refusal.{Checked, Fault, fault, checked}
+use Rattle.grammar.specs.Refusal.{Checked, checked}
 use Rattle.grammar.specs.Rule.{Rule, absent, within, unused, ruleOf}
 
 -- ---- Lines, counted from 1.
@@ -111,18 +111,25 @@ condition s number line =
     (cond (eqb number 5) (ruleOut s line)
     false))))
 
--- ---- "Order: 1 over the sheet; line 1 for 2, 3; each next line for 2, 4, 5".
+-- ---- "Order: 1 over the sheet; line 1 for 2, 3; each next line for 2, 4, 5": numbers, each with its line.
+
+-- "line 1 for 2, 3"
+abbrev pub headerOrder : List (ℕ × ℕ)
+headerOrder = (2, 1) ∷ (3, 1) ∷ []
+
+-- "each next line for 2, 4, 5"
+abbrev pub lineOrder : ℕ → List (ℕ × ℕ)
+lineOrder line = (2, line) ∷ (4, line) ∷ (5, line) ∷ []
 
 -- k lines from this one on.
-unfoldable pub ruleFaults : List ℕ → ℕ → ℕ → List Fault
-ruleFaults s line zero = []
-ruleFaults s line (suc k) =
-    fault 2 line (malformed s line) ∷ fault 4 line (variableOut s line) ∷ fault 5 line (ruleOut s line) ∷ ruleFaults s (suc line) k
+unfoldable pub ruleOrder : ℕ → ℕ → List (ℕ × ℕ)
+ruleOrder line zero = []
+ruleOrder line (suc k) = lineOrder line ++ ruleOrder (suc line) k
 
 -- All refusals of a sheet, in their order.
-unfoldable pub sheetFaults : List ℕ → List Fault
-sheetFaults s = fault 1 0 (notLines s) ∷ fault 2 1 (malformed s 1) ∷ fault 3 1 (headerOut s) ∷ ruleFaults s 2 (lines s - 1)
+unfoldable pub sheetOrder : List ℕ → List (ℕ × ℕ)
+sheetOrder s = (1, 0) ∷ headerOrder ++ ruleOrder 2 (lines s - 1)
 
 -- The grammar that a sheet describes, or its first refusal.
 unfoldable pub sheet : List ℕ → Checked Grammar
-sheet s = checked (sheetFaults s) (grammarOf s)
+sheet s = checked (condition s) (sheetOrder s) (grammarOf s)

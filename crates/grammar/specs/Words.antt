@@ -1,23 +1,23 @@
 -- How the code holds the rules: a number of four bytes for each variable. Assumes nothing.
-use mathlib.Core.Bool.{cond}
+use mathlib.Core.Bool.{Bool, true, false, cond}
 use mathlib.Core.List.{List, [], _∷_}
 use Prim.Native.Nat.{ℕ, zero, suc, _+_, _-_, _*_, _/_, _%_}
 use lib.Dec.{eqb}
 use lib.ListN.{getD}
 use Rattle.grammar.specs.Rule.{Rule, absent, always, never, byte, class, call}
 
--- The bytes of a word, the highest first.
-abbrev pub bytes : ℕ → ℕ → ℕ → ℕ → ℕ
-bytes a b c d = 16777216 * a + 65536 * b + 256 * c + d
+-- The number of four bytes, the highest first.
+abbrev pub fourBytes : ℕ → ℕ → ℕ → ℕ → ℕ
+fourBytes a b c d = 16777216 * a + 65536 * b + 256 * c + d
 
 -- The word of a rule: its kind and 1, or 0 for no rule; then its operands, the variables less 1.
 abbrev pub word : Rule → ℕ
-word absent = bytes 0 0 0 0
-word always = bytes 1 0 0 0
-word never = bytes 2 0 0 0
-word (byte b) = bytes 3 b 0 0
-word (class c) = bytes 4 c 0 0
-word (call B C D) = bytes 5 (B - 1) (C - 1) (D - 1)
+word absent = fourBytes 0 0 0 0
+word always = fourBytes 1 0 0 0
+word never = fourBytes 2 0 0 0
+word (byte b) = fourBytes 3 b 0 0
+word (class c) = fourBytes 4 c 0 0
+word (call B C D) = fourBytes 5 (B - 1) (C - 1) (D - 1)
 
 -- The words of variables A, A + 1, .., k of them.
 unfoldable pub wordsFrom : ℕ → ℕ → (ℕ → Rule) → List ℕ
@@ -43,3 +43,12 @@ ruleFor w =
 abbrev pub ruleIn : List ℕ → ℕ → Rule
 ruleIn ws zero = absent
 ruleIn ws (suc i) = ruleFor (getD ws i 0)
+
+-- What a word's last two bytes say of a rule of kind 4: the variable called second after a success, or after a failure. Any word has these bytes.
+abbrev pub secondFor : Bool → ℕ → ℕ
+secondFor true w = w / 256 % 256 + 1
+secondFor false w = w % 256 + 1
+
+-- The same of the word of variable A in a list of words.
+abbrev pub secondIn : List ℕ → ℕ → Bool → ℕ
+secondIn ws A flag = secondFor flag (getD ws (A - 1) 0)

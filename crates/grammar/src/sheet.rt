@@ -5,7 +5,7 @@ ghost use Prim.Native.Nat.{_*_, _≤_};
 ghost use lib.ListN.{length};
 ghost use Rattle.columns.specs.Column.{fields};
 ghost use Rattle.grammar.specs.Rule.{ruleOf};
-ghost use Rattle.grammar.specs.Words.{bytes, word};
+ghost use Rattle.grammar.specs.Words.{fourBytes, word};
 ghost use Rattle.grammar.specs.Sheet.{notLines, openLine};
 ghost use Rattle.grammar.specs.Reading.{numbersOf, wordOf, leafWord, headerSays, headerFound, lineSays, lineFound, Before, rulesSay, rulesFound, Ready, Stored};
 ghost use Rattle.grammar.specs.Promise.{SheetPromise};
@@ -63,15 +63,14 @@ fn read_fields(line: &[u8]) -> Line
     ensures { λ r. ⌜ numbersOf r ≡ fields 5 5 (now (line .entry)) 0 ⌝ }
 {
     let mut numbers = [0u32; 5];
-    let mut at: usize = 0;
+    let mut here = Cursor { at: 0 };
     let mut k: usize = 0;
     while k < 5 {
-        let here = Cursor { at };
         let Field::Number(x, next) = here.five(line) else {
             return Line::Malformed;
         };
         numbers[k] = x;
-        at = next.at;
+        here = next;
         k += 1;
     }
     Line::Numbers(numbers[0], numbers[1], numbers[2], numbers[3], numbers[4])
@@ -163,7 +162,7 @@ fn within(low: u32, high: u32, x: u32) -> bool
 // A word of four bytes, the highest first.
 fn pack(a: u32, b: u32, c: u32, d: u32) -> u32
     requires { ⌜ (a ≤ 5) × (b ≤ 255) × (c ≤ 255) × (d ≤ 255) ⌝ }
-    ensures { λ r. ⌜ r ≡ bytes a b c d ⌝ }
+    ensures { λ r. ⌜ r ≡ fourBytes a b c d ⌝ }
 {
     16777216 * a + 65536 * b + 256 * c + d
 }

@@ -14,7 +14,7 @@ use Rattle.grammar.proofs.Accepted.{grammar-in-range}
 use Rattle.schema.specs.Derivation.{Pair}
 use Rattle.schema.specs.Closed.{Closed}
 use Rattle.schema.specs.Table.{Within, cells}
-use Rattle.schema.proofs.Handed.{neither-true}
+use Rattle.grammar.proofs.Fitting.{neither-true}
 use Rattle.schema.proofs.SheetClosed.{sheet-closed}
 use Rattle.walk.specs.Reply.{Reply}
 use Rattle.memo.specs.Answer.{Says, AskReady}

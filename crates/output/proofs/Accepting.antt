@@ -10,7 +10,7 @@ use Rattle.grammar.specs.Sheet.{Grammar}
 use Rattle.grammar.proofs.Accepted.{grammar-in-range}
 use Rattle.grammar.proofs.Refusals.{accepted-clear}
 use Rattle.schema.specs.Derivation.{_at_}
-use Rattle.schema.specs.Handed.{callFaults, handed, verdictOf}
+use Rattle.schema.specs.Handed.{callCondition, callOrder, handed, verdictOf}
 use Rattle.schema.specs.Table.{Within, cells}
 use Rattle.schema.proofs.Tested.{handed-then}
 use Rattle.schema.proofs.Handed.{handed-sheet, handed-input, handed-slices}
@@ -23,14 +23,14 @@ module _ (s input : List ℕ) (g : Grammar) (e : handed s (verdictOf input 1024 
 
   -- 1,024 lines fit in an output of 50,176 bytes.
   pub writer-accepted : (k : ℕ) → 50176 ≤ k → handed s (writerOf input (g .start at 0) 1024 1024 k) ≡ accepted g
-  unfolding callFaults
+  unfolding callCondition
   writer-accepted k l =
       let b = grammar-in-range s g (handed-sheet s _ g e) in
       let n = length input in
       let count = cells (g .variables) n in
       let room = handed-slices s _ g e 1024 1024 refl .0 in
       handed-then s (writerOf input (g .start at 0) 1024 1024 k) g (handed-sheet s _ g e)
-      ∙ accepted-clear (callFaults g (writerOf input (g .start at 0) 1024 1024 k)) g .1 (
+      ∙ accepted-clear (callCondition g (writerOf input (g .start at 0) 1024 1024 k)) callOrder g .1 (
         le-ltb 4096 n (handed-input s _ g e),
         (
           refl,

@@ -1,14 +1,14 @@
 -- The operands of a kind 4 rule that a word holds. Assumes nothing.
 use mathlib.Core.Bool.{Bool, true, false, cond}
 use mathlib.Core.List.{List}
-use mathlib.Core.Path.{_≡_}
+use mathlib.Core.Path.{_≡_, sym}
 use Prim.Native.Nat.{ℕ, zero, suc, _+_, _-_, _/_, _%_}
 use native.Mathlib.Nat.{suc-ne-zero}
 use native.Mathlib.Omega.{arith}
 use lib.Dec.{eqb}
 use lib.ListN.{getD}
 use Rattle.grammar.specs.Rule.{Rule, absent, always, never, byte, class, call}
-use Rattle.grammar.specs.Words.{ruleFor, ruleIn}
+use Rattle.grammar.specs.Words.{ruleFor, ruleIn, secondIn}
 
 -- The operands B, C, D are those of the word w.
 pub record Operands (w B C D : ℕ) : Type 0 where
@@ -41,3 +41,8 @@ operands-of w B C D e =
 pub operands : (ws : List ℕ) (A B C D : ℕ) → ruleIn ws A ≡ call B C D → Operands (getD ws (A - 1) 0) B C D
 operands ws zero B C D e = absurd (suc-ne-zero 0 (cc))
 operands ws (suc i) B C D e = let q : suc i - 1 ≡ i = omega arith in rw q (operands-of (getD ws i 0) B C D e)
+
+-- The variable that a rule of kind 4 calls second is C after a success and D after a failure.
+pub second-in : (ws : List ℕ) (A B C D : ℕ) (flag : Bool) → ruleIn ws A ≡ call B C D → secondIn ws A flag ≡ cond flag C D
+second-in ws A B C D true e = sym (operands ws A B C D e .second)
+second-in ws A B C D false e = sym (operands ws A B C D e .third)

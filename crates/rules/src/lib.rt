@@ -9,8 +9,7 @@ ghost use Prim.Native.Nat.{ℕ, _≤_};
 ghost use lib.Dec.{eqb};
 ghost use lib.ListN.{length, getD};
 ghost use Rattle.grammar.specs.Class.{classOf};
-ghost use Rattle.grammar.specs.Rule.{call};
-ghost use Rattle.grammar.specs.Words.{ruleIn};
+ghost use Rattle.grammar.specs.Words.{ruleIn, secondIn};
 ghost use Rattle.schema.specs.Derivation.{act, oneByte, _at_};
 ghost use Rattle.rules.specs.Act.{told};
 ghost use Rattle.rules.specs.Admission.{Admission};
@@ -74,10 +73,10 @@ pub fn act_at(rules: &Rules, input: &[u8], variable: u32, position: u32) -> Act
     Act::Missing
 }
 
-// The variable that a kind 4 rule calls second: C on success, D on failure.
+// The variable that a kind 4 rule calls second: C on success, D on failure. Of any other rule, what its word's bytes say.
 pub fn second_of(rules: &Rules, variable: u32, flag: bool) -> u32
     requires { ⌜ (1 ≤ variable) × (variable ≤ 256) ⌝ }
-    ensures { λ r. ⌜ ((B C D : ℕ) → ruleIn (now (rules .entry)) variable ≡ call B C D → r ≡ cond flag C D) ⌝ }
+    ensures { λ r. ⌜ r ≡ secondIn (now (rules .entry)) variable flag ⌝ }
 {
     let word = rules[variable as usize - 1];
     if flag {

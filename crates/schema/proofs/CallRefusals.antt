@@ -1,27 +1,33 @@
 -- A call is refused with a number exactly under that number's condition, where no condition that comes earlier in the order holds. Assumes nothing.
-use mathlib.Core.Path.{_≡_, refl}
-use mathlib.Core.List.{List, _++_}
+use mathlib.Core.Path.{_≡_, ap₂, _∙_}
+use mathlib.Core.List.{List}
 use mathlib.Core.Logic.{_↔_}
-use Prim.Native.Nat.{ℕ, zero, suc, _-_}
-use Rattle.grammar.specs.Refusal.{refused}
-use Rattle.grammar.specs.Sheet.{lines, grammarOf, condition, ruleFaults, sheetFaults}
+use Prim.Native.Nat.{ℕ, _≤_}
+use native.Mathlib.Omega.{arith}
+use Rattle.grammar.specs.Refusal.{refused, checked}
+use Rattle.grammar.specs.Sheet.{grammarOf, condition, sheetOrder, sheet}
 use Rattle.grammar.specs.Order.{FirstHolds}
-use Rattle.grammar.proofs.Conditions.{Conditions, refused-exactly, conditions-append}
-use Rattle.schema.specs.Handed.{Handed, callCondition, handedCondition, callFaults, handed}
-
-rule-conditions : (s : List ℕ) (h : Handed) (n k : ℕ) → Conditions (handedCondition s h) (ruleFaults s n k)
-unfolding ruleFaults condition handedCondition
-rule-conditions s h n zero = tt
-rule-conditions s h n (suc k) = (refl, (refl, (refl, rule-conditions s h (suc n) k)))
-
--- Each fault in the order of a call's refusals has its number's condition.
-pub call-conditions : (s : List ℕ) (h : Handed) → Conditions (handedCondition s h) (sheetFaults s ++ callFaults (grammarOf s) h)
-unfolding sheetFaults condition callCondition handedCondition callFaults
-call-conditions s h =
-    conditions-append (handedCondition s h) (sheetFaults s) (callFaults (grammarOf s) h) (refl, (refl, (refl, rule-conditions s h 2 (lines s - 1))))
-    (refl, (refl, (refl, (refl, (refl, (refl, tt))))))
+use Rattle.grammar.proofs.Refusals.{then, Each, each-append, each-also, refused-exactly, checked-then, checked-below, checked-from}
+use Rattle.grammar.proofs.SheetRefusals.{sheet-numbers}
+use Rattle.schema.specs.Handed.{Handed, callCondition, handedCondition, callOrder, handedOrder, handed}
 
 -- The refusals of a call, both ways.
-pub call-refused : (s : List ℕ) (h : Handed) (x l : ℕ) → handed s h ≡ refused x l ↔ FirstHolds (handedCondition s h) (sheetFaults s ++ callFaults (grammarOf s) h) x l
+pub call-refused : (s : List ℕ) (h : Handed) (x l : ℕ) → handed s h ≡ refused x l ↔ FirstHolds (handedCondition s h) (handedOrder s) x l
 unfolding handed
-call-refused s h x l = refused-exactly (handedCondition s h) (sheetFaults s ++ callFaults (grammarOf s) h) (grammarOf s) x l (call-conditions s h)
+call-refused s h x l = refused-exactly (handedCondition s h) (handedOrder s) (grammarOf s) x l
+
+-- The sheet's, and then the call's own.
+pub handed-parts : (s : List ℕ) (h : Handed) → handed s h ≡ then (sheet s) (checked (callCondition (grammarOf s) h) callOrder (grammarOf s))
+unfolding handed handedCondition handedOrder sheet
+handed-parts s h =
+    let g = grammarOf s in
+    checked-then (handedCondition s h) (sheetOrder s) callOrder g g
+    ∙ ap₂ then (checked-below 6 (callCondition g h) (condition s) g (sheetOrder s) (sheet-numbers s))
+    (checked-from 6 (callCondition g h) (condition s) g callOrder (omega arith, (omega arith, (omega arith, (omega arith, (omega arith, (omega arith, tt)))))))
+
+-- Their numbers are at most 11.
+pub call-numbers : (s : List ℕ) → Each (λ x. x ≤ 11) (handedOrder s)
+unfolding handedOrder
+call-numbers s =
+    each-append (λ x. x ≤ 11) (sheetOrder s) callOrder (each-also _ (λ x. x ≤ 11) (sheetOrder s) (λ x l. omega arith) (sheet-numbers s))
+    (omega arith, (omega arith, (omega arith, (omega arith, (omega arith, (omega arith, tt))))))

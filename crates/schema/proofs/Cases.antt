@@ -15,13 +15,14 @@ use Rattle.calls.proofs.Table.{put, fresh, count-fresh}
 use Rattle.calls.proofs.Walk.{Walked, walk, ask}
 use Rattle.columns.specs.Column.{leading, column, row, digitsAfter, number, field, fields}
 use Rattle.grammar.specs.Class.{classIn, classOf}
-use Rattle.grammar.specs.Refusal.{Checked, refused, accepted, Fault, fault, checked}
+use Rattle.grammar.specs.Refusal.{Checked, refused, accepted, checked}
 use Rattle.grammar.specs.Rule.{Rule, ruleOf}
-use Rattle.grammar.specs.Sheet.{Grammar, grammarOf, lineAt, ruleWithin, openLine, notLines, headerOut, variableOut, ruleFaults, sheetFaults}
+use Rattle.grammar.specs.Sheet.{Grammar, grammarOf, lineAt, ruleWithin, openLine, notLines, headerOut, variableOut, condition, ruleOrder, sheetOrder}
+use Rattle.grammar.proofs.Refusals.{accepted-same}
 use Rattle.grammar.specs.Printing.{text}
 use Rattle.schema.specs.Cases.{Case, cases, firstPair, Derived, judged, CaseHolds}
 use Rattle.schema.specs.Derivation.{Pair, Result, Stop, Outcome, result, actOf, Has}
-use Rattle.schema.specs.Handed.{Handed, callFaults, handed, questionOf, verdictOf}
+use Rattle.schema.specs.Handed.{Handed, callCondition, handedCondition, handedOrder, handed, questionOf, verdictOf}
 use Rattle.schema.specs.Machine.{Ran, step, run, machine}
 use Rattle.schema.specs.Reached.{Reached, Named, Number}
 use Rattle.schema.specs.Verdict.{closedBy}
@@ -63,21 +64,19 @@ given c = found true (c .outcome) (c .named) (c .count) (c .steps) (c .run) 1 (c
 -- What is computed is what is given.
 computed-given : map computed cases ≡ map given cases
 unfolding foundBy computed given cases text leading column row digitsAfter number field fields lineAt openLine notLines headerOut variableOut
-    ruleFaults sheetFaults ruleOf ruleWithin callFaults closedBy checked handed classIn classOf actOf step run machine eval gts numbered sum
+    condition ruleOrder sheetOrder ruleOf ruleWithin callCondition handedCondition handedOrder closedBy checked handed classIn classOf actOf step run machine eval gts numbered sum
     put fresh count-fresh ℕ-discrete walk ask walked
 computed-given = refl
 
 -- ---- What follows for one case.
 
-accepted-is : {A : Type 0} (fs : List Fault) (a : A) → isAccepted (checked fs a) ≡ true → checked fs a ≡ accepted a
-unfolding checked
-accepted-is [] a e = refl
-accepted-is (fault number line true ∷ fs) a e = absurd (clash (cc))
-accepted-is (fault number line false ∷ fs) a e = accepted-is fs a e
-
 handed-is : (s : List ℕ) (h : Handed) → isAccepted (handed s h) ≡ true → handed s h ≡ accepted (grammarOf s)
 unfolding handed
-handed-is s h e = accepted-is _ (grammarOf s) e
+handed-is s h e = go (handed s h) refl
+  where
+    go : (o : Checked Grammar) → handed s h ≡ o → handed s h ≡ accepted (grammarOf s)
+    go (refused x l) p = let q = ap isAccepted p in absurd (clash (cc))
+    go (accepted g) p = p ∙ ap accepted (sym (accepted-same (handedCondition s h) (handedOrder s) (grammarOf s) g p))
 
 -- A value's steps and height are those of the outcome's derivation.
 derived-by : (rule : ℕ → Rule) (s : List ℕ) (x : Pair) (o : Outcome) (v : Value) → Has rule s x o → Evaluates rule s x v → Derived rule s x o (stepsOf v)

@@ -1,58 +1,49 @@
 -- What an accepted call was handed: an accepted sheet, a pair within, slices that are long enough. Assumes nothing.
-use mathlib.Core.Bool.{Bool, true, false, _||_}
-use mathlib.Core.List.{List, _++_}
+use mathlib.Core.Bool.{Bool, false, _||_}
+use mathlib.Core.List.{List}
 use mathlib.Core.Option.{Option, some}
-use mathlib.Core.Path.{_≡_, refl, sym, ap, _∙_, subst}
+use mathlib.Core.Path.{_≡_, refl, sym, ap, _∙_}
 use Prim.Native.Nat.{ℕ, _*_, _≤_}
 use lib.Dec.{ltb}
 use lib.ListN.{length}
 use borrow.Author.Tests.{ltb-false, not-false}
-use Rattle.calls.proofs.Clash.{clash}
-use Rattle.grammar.specs.Refusal.{accepted}
+use Rattle.grammar.specs.Refusal.{Checked, refused, accepted}
+use Rattle.grammar.specs.Order.{NoneHolds}
 use Rattle.grammar.specs.Rule.{within}
-use Rattle.grammar.specs.Sheet.{Grammar, grammarOf, sheetFaults, sheet}
+use Rattle.grammar.specs.Sheet.{Grammar, sheet}
 use Rattle.schema.specs.Derivation.{Pair, _at_}
-use Rattle.schema.specs.Handed.{Handed, tested, pairVariableOut, pairPositionOut, callFaults, handed}
+use Rattle.schema.specs.Handed.{Handed, tested, pairVariableOut, pairPositionOut, callCondition, callOrder, handed}
 use Rattle.schema.specs.Table.{cells}
-use Rattle.grammar.proofs.Refusals.{Clear, clear-append, accepted-clear, accepted-same}
-use Rattle.grammar.proofs.Fitting.{within-bounds}
+use Rattle.grammar.proofs.Refusals.{clash, accepted-same, accepted-none}
+use Rattle.grammar.proofs.Fitting.{neither-true, within-bounds}
 use Rattle.schema.proofs.Cell.{PairWithin}
-
-pub neither-true : (a b : Bool) → a || b ≡ false → (a ≡ false) × (b ≡ false)
-neither-true true b e = absurd (clash (cc))
-neither-true false b e = (refl, e)
+use Rattle.schema.proofs.Tested.{handed-refused, handed-then}
 
 -- A test of something handed over.
 tested-is : {A : Type 0} (o : Option A) (out : A → Bool) (a : A) → o ≡ some a → tested o out ≡ false → out a ≡ false
 tested-is o out a q f = ap (λ p. tested p out) (sym q) ∙ f
 
 module _ (s : List ℕ) (h : Handed) (g : Grammar) (e : handed s h ≡ accepted g) where
-  same : grammarOf s ≡ g
-  unfolding handed
-  same = accepted-same (sheetFaults s ++ callFaults (grammarOf s) h) (grammarOf s) g e
-
-  clear : Clear (sheetFaults s) × Clear (callFaults (grammarOf s) h)
-  unfolding handed
-  clear =
-      clear-append (sheetFaults s) (callFaults (grammarOf s) h)
-      (accepted-clear (sheetFaults s ++ callFaults (grammarOf s) h) (grammarOf s) .0 (e ∙ ap accepted (sym same)))
-
-  call-clear : Clear (callFaults g h)
-  call-clear = subst (λ (f : Grammar). Clear (callFaults f h)) same (clear .1)
-
   -- The sheet is accepted.
   pub handed-sheet : sheet s ≡ accepted g
-  unfolding sheet
-  handed-sheet = accepted-clear (sheetFaults s) (grammarOf s) .1 (clear .0) ∙ ap accepted same
+  handed-sheet = go (sheet s) refl
+    where
+      go : (o : Checked Grammar) → sheet s ≡ o → sheet s ≡ accepted g
+      go (refused x l) p = let q = handed-refused s h x l p in absurd (clash (cc))
+      go (accepted k) p =
+          p ∙ ap accepted (accepted-same (callCondition k h) callOrder k g (sym (handed-then s h k p) ∙ e))
+
+  call-clear : NoneHolds (callCondition g h) callOrder
+  call-clear = accepted-none (callCondition g h) callOrder g g (sym (handed-then s h g handed-sheet) ∙ e)
 
   -- The input is not too long.
   pub handed-input : length (h .input) ≤ 4096
-  unfolding callFaults
+  unfolding callCondition
   handed-input = ltb-false 4096 (length (h .input)) (call-clear .0)
 
   -- The pair, where one is handed over, is within.
   pub handed-pair : (x : Pair) → h .pair ≡ some x → PairWithin (g .variables) (length (h .input)) x
-  unfolding callFaults
+  unfolding callCondition
   handed-pair (A at p) q =
       let v = g .variables in
       let n = length (h .input) in
@@ -64,7 +55,7 @@ module _ (s : List ℕ) (h : Handed) (g : Grammar) (e : handed s h ≡ accepted 
   -- Table and work slice, where they are handed over, are long enough,
   pub handed-slices : (table work : ℕ) → h .slices ≡ some (table, work)
       → (cells (g .variables) (length (h .input)) ≤ table) × (cells (g .variables) (length (h .input)) ≤ work)
-  unfolding callFaults
+  unfolding callCondition
   handed-slices table work q =
       let count = cells (g .variables) (length (h .input)) in
       let a = tested-is (h .slices) (λ l. ltb (l .0) count || ltb (l .1) count) (table, work) q (call-clear .1 .1 .1 .1 .0) in
@@ -73,7 +64,7 @@ module _ (s : List ℕ) (h : Handed) (g : Grammar) (e : handed s h ≡ accepted 
 
   -- and so is the output.
   pub handed-output : (out : ℕ) → h .output ≡ some out → 49 * cells (g .variables) (length (h .input)) ≤ out
-  unfolding callFaults
+  unfolding callCondition
   handed-output out q =
       let count = cells (g .variables) (length (h .input)) in
       ltb-false out (49 * count) (tested-is (h .output) (λ l. ltb l (49 * count)) out q (call-clear .1 .1 .1 .1 .1 .0))

@@ -13,6 +13,7 @@ pub mod Counted
 pub mod Walk
 pub mod Handed
 pub mod CallRefusals
+pub mod ClosedBy
 pub mod Tested
 pub mod SheetClosed
 pub mod LineLength

@@ -1,39 +1,33 @@
 -- The refusals of a call, once its sheet is read. Assumes nothing.
 use mathlib.Core.Path.{_≡_, refl, ap, sym, _∙_, subst}
 use mathlib.Core.Bool.{Bool, true, false, cond, not, _||_}
-use mathlib.Core.List.{List, _++_}
+use mathlib.Core.List.{List}
 use Prim.Native.Nat.{ℕ}
 use lib.Dec.{ltb}
 use lib.ListN.{length}
 use Rattle.grammar.specs.Refusal.{Checked, refused, accepted, checked}
 use Rattle.grammar.specs.Rule.{within}
-use Rattle.grammar.specs.Sheet.{Grammar, grammarOf, sheetFaults, sheet}
-use Rattle.grammar.proofs.Refusals.{refused-first, first-then, accepted-clear, accepted-same, clear-then}
+use Rattle.grammar.specs.Sheet.{Grammar, sheet}
+use Rattle.grammar.proofs.Accepted.{describes}
 use Rattle.schema.specs.Derivation.{_at_}
-use Rattle.schema.specs.Handed.{Handed, callFaults, handed, asked, questionOf, verdictOf}
+use Rattle.schema.specs.Handed.{Handed, callCondition, callOrder, handed, asked, questionOf, verdictOf}
 use Rattle.schema.specs.Table.{cells}
 use Rattle.schema.specs.Verdict.{closedBy}
+use Rattle.schema.proofs.CallRefusals.{handed-parts}
 
 -- The sheet's refusal is the call's;
 pub handed-refused : (s : List ℕ) (h : Handed) (x l : ℕ) → sheet s ≡ refused x l → handed s h ≡ refused x l
-unfolding sheet handed
-handed-refused s h x l e =
-    refused-first (sheetFaults s ++ callFaults (grammarOf s) h) (grammarOf s) x l .1
-    (first-then x l (sheetFaults s) (callFaults (grammarOf s) h) (refused-first (sheetFaults s) (grammarOf s) x l .0 e))
+handed-refused s h x l e = handed-parts s h ∙ rw e
 
 -- after an accepted sheet come the other tests.
-pub handed-then : (s : List ℕ) (h : Handed) (g : Grammar) → sheet s ≡ accepted g → handed s h ≡ checked (callFaults g h) g
-unfolding sheet handed
-handed-then s h g e =
-    let same = accepted-same (sheetFaults s) (grammarOf s) g e in
-    clear-then (sheetFaults s) (callFaults (grammarOf s) h) (grammarOf s) (accepted-clear (sheetFaults s) (grammarOf s) .0 (e ∙ ap accepted (sym same)))
-    ∙ ap (λ (k : Grammar). checked (callFaults k h) k) same
+pub handed-then : (s : List ℕ) (h : Handed) (g : Grammar) → sheet s ≡ accepted g → handed s h ≡ checked (callCondition g h) callOrder g
+handed-then s h g e = handed-parts s h ∙ rw e (ap (λ (k : Grammar). checked (callCondition k h) callOrder k) (describes s g e .grammar-is))
 
 -- A question by its tests for 6, 8 and 9.
 pub asked-by : (s input : List ℕ) (g : Grammar) (A p : ℕ) {a b c : Bool} → sheet s ≡ accepted g
     → ltb 4096 (length input) ≡ a → within 1 (g .variables) A ≡ b → ltb (length input) p ≡ c
     → handed s (asked input (A at p)) ≡ cond a (refused 6 0) (cond (not b) (refused 8 0) (cond c (refused 9 0) (accepted g)))
-unfolding checked callFaults
+unfolding checked callCondition
 asked-by s input g A p e k l m = handed-then s (asked input (A at p)) g e ∙ rw (k, l, m)
 
 -- ---- What the question adds: the lengths of its slices.
@@ -44,7 +38,7 @@ questioned : (s input : List ℕ) (g : Grammar) (A p table work : ℕ) {a b c : 
     → handed s (questionOf input (A at p) table work)
     ≡ cond a (refused 6 0) (cond (not b) (refused 8 0) (cond c (refused 9 0)
     (cond (ltb table (cells (g .variables) (length input)) || ltb work (cells (g .variables) (length input))) (refused 10 0) (accepted g))))
-unfolding checked callFaults
+unfolding checked callCondition
 questioned s input g A p table work e k l m = handed-then s (questionOf input (A at p) table work) g e ∙ rw (k, l, m)
 
 -- A question is refused as its first part is; else 10 is tested.
@@ -79,5 +73,5 @@ pub verdict-by : (s input : List ℕ) (g : Grammar) (table work : ℕ) (a b c : 
     → ltb 4096 (length input) ≡ a → closedBy (g .endmarker) input ≡ b
     → (ltb table (cells (g .variables) (length input)) || ltb work (cells (g .variables) (length input))) ≡ c
     → handed s (verdictOf input table work) ≡ cond a (refused 6 0) (cond (not b) (refused 7 0) (cond c (refused 10 0) (accepted g)))
-unfolding checked callFaults
+unfolding checked callCondition
 verdict-by s input g table work a b c e k l m = handed-then s (verdictOf input table work) g e ∙ rw (k, l, m)

@@ -5,9 +5,9 @@ use mathlib.Core.Option.{Option, none, some}
 use Prim.Native.Nat.{ℕ, _*_}
 use lib.Dec.{ltb, eqb}
 use lib.ListN.{length}
-use Rattle.grammar.specs.Refusal.{Checked, Fault, fault, checked}
+use Rattle.grammar.specs.Refusal.{Checked, checked, from}
 use Rattle.grammar.specs.Rule.{within}
-use Rattle.grammar.specs.Sheet.{Grammar, grammarOf, condition, sheetFaults}
+use Rattle.grammar.specs.Sheet.{Grammar, grammarOf, condition, sheetOrder}
 use Rattle.schema.specs.Derivation.{Pair, _at_}
 use Rattle.schema.specs.Table.{cells}
 use Rattle.schema.specs.Verdict.{closedBy}
@@ -50,9 +50,9 @@ slicesShort count l = ltb (l .0) count || ltb (l .1) count
 abbrev pub outputShort : ℕ → ℕ → Bool
 outputShort count l = ltb l (49 * count)
 
--- The condition of a refusal by its number.
-unfoldable pub callCondition : Grammar → Handed → ℕ → Bool
-callCondition g h number =
+-- The condition of a refusal by its number; none of these has a line.
+unfoldable pub callCondition : Grammar → Handed → ℕ → ℕ → Bool
+callCondition g h number line =
     let n = length (h .input) in
     let count = cells (g .variables) n in
     cond (eqb number 6) (inputLong h)
@@ -65,24 +65,19 @@ callCondition g h number =
 
 -- The condition of a refusal by its number, at a line: 1 to 5 are the sheet's, 6 to 11 the call's.
 unfoldable pub handedCondition : List ℕ → Handed → ℕ → ℕ → Bool
-handedCondition s h number line = cond (ltb number 6) (condition s number line) (callCondition (grammarOf s) h number)
+handedCondition s h = from 6 (callCondition (grammarOf s) h) (condition s)
 
 -- "then 6, 7, 8, 9, 10, 11"
-unfoldable pub callFaults : Grammar → Handed → List Fault
-callFaults g h =
-    let n = length (h .input) in
-    let count = cells (g .variables) n in
-    fault 6 0 (inputLong h)
-    ∷ fault 7 0 (endmarkerOut g h)
-    ∷ fault 8 0 (tested (h .pair) (pairVariableOut (g .variables)))
-    ∷ fault 9 0 (tested (h .pair) (pairPositionOut n))
-    ∷ fault 10 0 (tested (h .slices) (slicesShort count))
-    ∷ fault 11 0 (tested (h .output) (outputShort count))
-    ∷ []
+abbrev pub callOrder : List (ℕ × ℕ)
+callOrder = (6, 0) ∷ (7, 0) ∷ (8, 0) ∷ (9, 0) ∷ (10, 0) ∷ (11, 0) ∷ []
 
 -- "Order: 1 over the sheet; line 1 for 2, 3; each next line for 2, 4, 5; then 6, 7, 8, 9, 10, 11."
+unfoldable pub handedOrder : List ℕ → List (ℕ × ℕ)
+handedOrder s = sheetOrder s ++ callOrder
+
+-- The grammar of the sheet that a call is handed, or the call's first refusal.
 unfoldable pub handed : List ℕ → Handed → Checked Grammar
-handed s h = checked (sheetFaults s ++ callFaults (grammarOf s) h) (grammarOf s)
+handed s h = checked (handedCondition s h) (handedOrder s) (grammarOf s)
 
 -- ---- What each call is handed; lengths of the slices.
 

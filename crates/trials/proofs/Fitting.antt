@@ -1,31 +1,31 @@
 -- The numbers of the machine, the writer and the checker fit 32 bits. Assumes nothing.
-use mathlib.Core.List.{List, [], _∷_, _++_}
+use mathlib.Core.List.{List}
 use mathlib.Core.Option.{some}
 use mathlib.Core.Path.{_≡_, refl, sym, ap, _∙_, subst}
-use Prim.Native.Nat.{ℕ, zero, suc, _≤_}
+use Prim.Native.Nat.{ℕ, _≤_}
 use native.Mathlib.Omega.{arith}
 use lib.ListN.{length}
 use Rattle.calls.proofs.Clash.{clash}
-use Rattle.grammar.specs.Refusal.{Checked, refused, accepted, fault}
-use Rattle.grammar.specs.Rule.{Rule}
-use Rattle.grammar.specs.Sheet.{Grammar, grammarOf, sheetFaults}
-use Rattle.grammar.proofs.Refusals.{refused-first}
+use Rattle.grammar.specs.Refusal.{Checked, refused, accepted}
+use Rattle.grammar.specs.Sheet.{Grammar}
+use Rattle.grammar.proofs.Refusals.{refused-each}
 use Rattle.schema.specs.Derivation.{Pair, _at_, Result, success, failure, Outcome, result, Has}
-use Rattle.schema.specs.Handed.{Handed, asked, handed, callFaults}
+use Rattle.schema.specs.Handed.{Handed, asked, handed}
 use Rattle.schema.specs.Machine.{RunOutcome, says, spent, noFrame, Ran, ran}
 use Rattle.schema.specs.Table.{code}
 use Rattle.schema.proofs.Handed.{handed-input, handed-pair}
-use Rattle.schema.proofs.Small.{Small, small-append, small-first, call-small, refusal-small, code-small}
+use Rattle.schema.proofs.Small.{refusal-small, code-small}
 use Rattle.walk.specs.Reply.{outcomeOf, told}
 use Rattle.writer.specs.Writer.{writerOf, RepliesWriting, WriterPromise}
 use Rattle.writer.specs.declared.Written.{Written}
 use Rattle.backtrack.specs.Run.{told as ended, Comes, Runs}
 use Rattle.backtrack.specs.declared.Ending.{Ending}
 use Rattle.backtrack.proofs.Call as machine
-use Rattle.checker.specs.Checker.{told as claims, lines, lineAt, lineFaults, certificateFaults, claimOf, Claimed, checkFaults, check, Checks}
+use Rattle.checker.specs.Checker.{told as claims, lines, lineAt, checkCondition, checkOrder, claimOf, Claimed, check, Checks}
 use Rattle.checker.specs.Proper.{claimed}
 use Rattle.checker.specs.declared.Claim.{Claim}
 use Rattle.checker.proofs.Call as checker
+use Rattle.checker.proofs.CheckRefusals.{check-numbers as refusal-numbers}
 use Rattle.trials.specs.Numbers.{returned, reported, Fits, ranCode, replyCode, claimCode, claimNumbers, CheckNumbers}
 
 -- The code of an outcome that the pair of an accepted question has.
@@ -67,27 +67,11 @@ module _ (s input : List ℕ) (A p : ℕ) (table table′ work work′ out out�
 
 -- ---- The checker.
 
-lines-small : (rule : ℕ → Rule) (v : ℕ) (input reading : List ℕ) (k : ℕ) → Small 14 (lineFaults rule v input reading k)
-unfolding lineFaults
-lines-small rule v input reading zero = tt
-lines-small rule v input reading (suc k) =
-    small-append 14 (lineFaults rule v input reading k) _ (lines-small rule v input reading k) (omega arith, (omega arith, tt))
-
-certificate-small : (rule : ℕ → Rule) (v : ℕ) (input : List ℕ) (x : Pair) (reading : List ℕ) → Small 14 (certificateFaults rule v input x reading)
-unfolding certificateFaults
-certificate-small rule v input x reading =
-    (omega arith, small-append 14 (lineFaults rule v input reading (lines reading)) _ (lines-small rule v input reading (lines reading)) (omega arith, tt))
-
 -- The number of a checker's refusal is at most 14.
 check-small : (s input : List ℕ) (x : Pair) (reading : List ℕ) (y l : ℕ) → check s input x reading ≡ refused y l → y ≤ 14
-unfolding check checkFaults
+unfolding check
 check-small s input x reading y l e =
-    let g = grammarOf s in
-    let fs = sheetFaults s ++ callFaults g (asked input x) in
-    let gs = certificateFaults (g .rule) (g .variables) input x reading in
-    small-first 14 y l (fs ++ gs)
-    (small-append 14 fs gs (call-small 14 (omega arith) s (asked input x)) (certificate-small (g .rule) (g .variables) input x reading))
-    (refused-first (fs ++ gs) (claimOf (lineAt reading (lines reading))) y l .0 e)
+    refused-each (λ n. n ≤ 14) (checkCondition s input x reading) (checkOrder s reading) (claimOf (lineAt reading (lines reading))) y l (refusal-numbers s reading) e
 
 -- The code of a claim is that of the result.
 claim-code : (A p : ℕ) (t : Result) → claimCode (claimed (A at p) t) ≡ code (result t)

@@ -15,7 +15,7 @@ use Rattle.grammar.specs.declared.sheet.Sheet.{Sheet}
 use Rattle.grammar.specs.declared.sheet.Sheet.the-variants.{Read, Refused}
 use Rattle.rules.specs.Admission.{Admission}
 use Rattle.schema.specs.Derivation.{_at_}
-use Rattle.schema.specs.Handed.{pairVariableOut, pairPositionOut, callFaults, handed, questionOf}
+use Rattle.schema.specs.Handed.{pairVariableOut, pairPositionOut, callCondition, callOrder, handed, questionOf}
 use Rattle.schema.specs.Table.{cells}
 use Rattle.schema.proofs.Tested.{handed-refused, handed-then, question-follows}
 use Rattle.rules.proofs.Admitted.{not-admitted}
@@ -39,9 +39,9 @@ by-tests n out g false false false true = refl
 by-tests n out g false false false false = refl
 
 module _ (s input : List ℕ) (A p table work out : ℕ) where
-  then-tested : (g : Grammar) → checked (callFaults g (writerOf input (A at p) table work out)) g
-      ≡ withOutput (length input) out (checked (callFaults g (questionOf input (A at p) table work)) g)
-  unfolding checked callFaults
+  then-tested : (g : Grammar) → checked (callCondition g (writerOf input (A at p) table work out)) callOrder g
+      ≡ withOutput (length input) out (checked (callCondition g (questionOf input (A at p) table work)) callOrder g)
+  unfolding checked callCondition
   then-tested g =
       by-tests (length input) out g (ltb 4096 (length input)) (pairVariableOut (g .variables) (A at p)) (pairPositionOut (length input) (A at p))
       (ltb table (cells (g .variables) (length input)) || ltb work (cells (g .variables) (length input)))

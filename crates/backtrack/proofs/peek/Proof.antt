@@ -1,7 +1,11 @@
 -- `peek` plans the machine's next step. Assumes nothing.
+use mathlib.Core.Path.{_∙_}
+use Prim.Native.Nat.{_-_, _*_}
 use native.Mathlib.Omega.{arith}
+use lib.ListN.{getD}
 use denote.Ref.{now}
 use Rattle.grammar.specs.Words.{ruleIn}
+use Rattle.rules.proofs.RuleWords.{second-in}
 use Rattle.rules.specs.Act.{told}
 use Rattle.backtrack.proofs.Plans.{sound-top, right-bottom, right-stage0, right-stage1, right-stage2}
 use borrow.Author.Needs.{needs}
@@ -84,7 +88,7 @@ returns-3 c =
     let k = t .called (c .before .if3 .taken) in
     right-stage1 (ruleIn (now (a .rules))) (now (a .input)) (now (a .frames)) (a .x .position) (a .x .moves) (a .x .depth) (a .x .flag)
     (c .second-of .result) (c .before .before .back .result) (omega arith) (c .before .if3 .taken) k
-    (c .second-of .ensures (k .0) (k .1) (k .2) (k .3)) (c .before .before .back .ensures)
+    (c .second-of .ensures ∙ second-in (now (a .rules)) (getD (now (a .frames)) ((a .x .depth - 1) * 3) 0) (k .0) (k .1) (k .2) (a .x .flag) (k .3)) (c .before .before .back .ensures)
 
 returns-4 : tie.Need-returns-4
 returns-4 c =

@@ -2,7 +2,6 @@
 use mathlib.Core.Path.{refl, sym, ap}
 use Prim.Native.Nat.{_-_}
 use native.Mathlib.Omega.{arith}
-use Rattle.columns.proofs.Fields.{number-found, fault-found}
 use Rattle.columns.proofs.Parts.{Reading, starts, stops, reads-on, all-read}
 use Rattle.checker.specs.Checker.{lineFrom}
 use borrow.Author.Needs.{needs}
@@ -10,10 +9,10 @@ use Rattle.checker.proofs.read_fields.Statement.{statement}
 use Rattle.checker.proofs.read_fields.Tie as tie
 
 abbrev Inv-loop : tie.InvT-loop
-Inv-loop line numbers₀ at₀ k₀ numbers at k = Reading 8 6 line numbers at k
+Inv-loop line numbers₀ here₀ k₀ numbers here k = Reading 8 6 line numbers here k
 
 abbrev μ-loop : tie.MeasureT-loop
-μ-loop line numbers₀ at₀ k₀ numbers at k = 6 - k
+μ-loop line numbers₀ here₀ k₀ numbers here k = 6 - k
 
 loop-holds : tie.Need-loop-holds Inv-loop μ-loop
 loop-holds c = starts 8 6 _ _ refl
@@ -28,7 +27,7 @@ enum-told : tie.Need-enum-told Inv-loop μ-loop
 enum-told c = search needs
 
 returns : tie.Need-returns Inv-loop μ-loop
-returns c = sym (ap lineFrom (stops 8 6 _ (c .before .before .before .before .loop .inv) (omega arith) (fault-found 8 _ _ (c .before .before .eight .ensures) (c .enum-told .given .1))))
+returns c = sym (ap lineFrom (stops 8 6 _ (c .before .before .before .before .loop .inv) (omega arith) (c .before .before .eight .ensures) (c .enum-told .given .1)))
 
 mul-numbers : tie.Need-mul-numbers Inv-loop μ-loop
 mul-numbers c = search needs
@@ -43,25 +42,25 @@ loop-less : tie.Need-loop-less Inv-loop μ-loop
 loop-less c = search needs
 
 loop-again : tie.Need-loop-again Inv-loop μ-loop
-loop-again c = reads-on 8 6 _ (c .before .before .before .before .before .loop .inv) (omega arith) (number-found 8 _ _ (c .before .before .before .eight .ensures) (c .before .x .given .1))
+loop-again c = reads-on 8 6 _ (c .before .before .before .before .before .loop .inv) (omega arith) (c .before .before .before .eight .ensures) (c .before .x .given .1)
 
-array-read-t15 : tie.Need-array-read-t15 Inv-loop μ-loop
-array-read-t15 c = search needs
+array-read-t14 : tie.Need-array-read-t14 Inv-loop μ-loop
+array-read-t14 c = search needs
 
-array-read-t18 : tie.Need-array-read-t18 Inv-loop μ-loop
-array-read-t18 c = search needs
+array-read-t17 : tie.Need-array-read-t17 Inv-loop μ-loop
+array-read-t17 c = search needs
 
-array-read-t21 : tie.Need-array-read-t21 Inv-loop μ-loop
-array-read-t21 c = search needs
+array-read-t20 : tie.Need-array-read-t20 Inv-loop μ-loop
+array-read-t20 c = search needs
 
-array-read-t24 : tie.Need-array-read-t24 Inv-loop μ-loop
-array-read-t24 c = search needs
+array-read-t23 : tie.Need-array-read-t23 Inv-loop μ-loop
+array-read-t23 c = search needs
 
-array-read-t27 : tie.Need-array-read-t27 Inv-loop μ-loop
-array-read-t27 c = search needs
+array-read-t26 : tie.Need-array-read-t26 Inv-loop μ-loop
+array-read-t26 c = search needs
 
-array-read-t30 : tie.Need-array-read-t30 Inv-loop μ-loop
-array-read-t30 c = search needs
+array-read-t29 : tie.Need-array-read-t29 Inv-loop μ-loop
+array-read-t29 c = search needs
 
 returns-2 : tie.Need-returns-2 Inv-loop μ-loop
 returns-2 c = sym (ap lineFrom (all-read 8 6 _ (c .before .loop .inv) (omega arith)))
@@ -82,10 +81,10 @@ read-fields-spec =
     add-k
     loop-less
     loop-again
-    array-read-t15
-    array-read-t18
-    array-read-t21
-    array-read-t24
-    array-read-t27
-    array-read-t30
+    array-read-t14
+    array-read-t17
+    array-read-t20
+    array-read-t23
+    array-read-t26
+    array-read-t29
     returns-2)

@@ -1,7 +1,4 @@
--- `second_of` gives the second operand or the third. Assumes nothing.
-use mathlib.Core.Path.{sym}
-use denote.Ref.{now}
-use Rattle.rules.proofs.RuleWords.{operands}
+-- `second_of` gives what the last two bytes of a word say. Assumes nothing.
 use borrow.Author.Needs.{needs}
 use Rattle.rules.proofs.second_of.Statement.{statement}
 use Rattle.rules.proofs.second_of.Tie as tie
@@ -19,13 +16,13 @@ add-result : tie.Need-add-result
 add-result c = search needs
 
 returns : tie.Need-returns
-returns c = λ B C D e. let a = c .before .before .args in rw (c .if1 .taken) (sym (operands (now (a .rules)) (a .variable) B C D e .second))
+returns c = rw (c .if1 .taken)
 
 add-result-2 : tie.Need-add-result-2
 add-result-2 c = search needs
 
 returns-2 : tie.Need-returns-2
-returns-2 c = λ B C D e. let a = c .before .before .args in rw (c .if1 .left) (sym (operands (now (a .rules)) (a .variable) B C D e .third))
+returns-2 c = rw (c .if1 .left)
 
 pub second-of-spec : {M : Type 1} → statement M
 second-of-spec =

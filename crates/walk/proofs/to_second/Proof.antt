@@ -1,4 +1,7 @@
-use mathlib.Core.Path.{refl}
+use mathlib.Core.Bool.{true, false}
+use mathlib.Core.Path.{refl, _∙_}
+use denote.Ref.{now}
+use Rattle.rules.proofs.RuleWords.{second-in}
 use Rattle.walk.proofs.Calls.{code-large, after-failure, after-success}
 use borrow.Author.Needs.{needs}
 use Rattle.walk.proofs.to_second.Statement.{statement}
@@ -8,7 +11,9 @@ second-of-requires : tie.Need-second-of-requires
 second-of-requires c κs = search needs
 
 returns : tie.Need-returns
-returns c = (λ B C D e. after-failure C D _ _ _ (c .before .if1 .taken) (c .second-of .ensures B C D e), refl, refl, refl)
+returns c =
+    let a = c .before .before .before .before .args in
+    (λ B C D e. after-failure C D _ _ _ (c .before .if1 .taken) (c .second-of .ensures ∙ second-in (now (a .rules)) (a .x .variable) B C D false e), refl, refl, refl)
 
 second-of-requires-2 : tie.Need-second-of-requires-2
 second-of-requires-2 c κs = search needs
@@ -17,7 +22,9 @@ sub-t8 : tie.Need-sub-t8
 sub-t8 c = code-large _ (c .before .before .before .before .before .before .pre .2) (c .before .before .before .if1 .left)
 
 returns-2 : tie.Need-returns-2
-returns-2 c = (λ B C D e. after-success C D _ _ _ (c .before .before .before .if1 .left) (c .before .before .second-of2 .ensures B C D e), refl, refl, refl)
+returns-2 c =
+    let a = c .before .before .before .before .before .before .args in
+    (λ B C D e. after-success C D _ _ _ (c .before .before .before .if1 .left) (c .before .before .second-of2 .ensures ∙ second-in (now (a .rules)) (a .x .variable) B C D true e), refl, refl, refl)
 
 pub to-second-spec : {M : Type 1} → statement M
 to-second-spec =
