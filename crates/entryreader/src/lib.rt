@@ -5,8 +5,8 @@ ghost use Rattle.walk.specs.Reply.{told};
 ghost use Rattle.memo.specs.Verdict.{numbers};
 ghost use Rattle.entryreader.specs.Codes.{codeOf, VerdictCode, returned, reported, Fits, QuestionNumbers};
 use memo::Judgement;
+use step::Cell;
 use walk::Answer;
-use walk::Cell;
 
 // The code of a verdict, or 100 plus the number of a refusal.
 fn code(judgement: Judgement) -> u32

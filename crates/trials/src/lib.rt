@@ -7,8 +7,8 @@ ghost use Rattle.checker.specs.Checker.{told as claimed};
 ghost use Rattle.trials.specs.Numbers.{returned, reported, Fits, ranCode, runNumbers, RunNumbers, replyCode, writerNumbers, WriterNumbers, claimCode, claimNumbers, CheckNumbers};
 use backtrack::Ending;
 use checker::Claim;
+use step::Cell;
 use walk::Answer;
-use walk::Cell;
 
 // The code of a run whose moves are spent.
 const SPENT: u32 = 10000;

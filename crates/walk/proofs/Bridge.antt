@@ -23,7 +23,7 @@ use Rattle.schema.proofs.Held.{heldCells}
 use Rattle.schema.proofs.Cell.{PairWithin}
 use Rattle.schema.proofs.Closed.{numbering}
 use Rattle.schema.proofs.System.{gts, kindOf, first-is, second-is}
-use Rattle.walk.specs.Walk.{Settled, Called, first-called, second-called, Given, by-leaf, by-calls}
+use Rattle.step.specs.Codes.{Settled, Called, first-called, second-called, Given, by-leaf, by-calls}
 use Rattle.walk.proofs.Marks.{mark, mark-settled}
 
 -- The cell is not settled in the table.

@@ -12,19 +12,22 @@ use Rattle.schema.specs.Closed.{Closed}
 use Rattle.schema.specs.Derivation.{Pair, _at_, Result}
 use Rattle.schema.specs.Table.{cell, cells, decided, held}
 use Rattle.schema.proofs.Cell.{cell-below}
-use Rattle.walk.specs.Walk.{openMark, Settled, fresh, Counts, before, WalkReady}
-use Rattle.walk.specs.Step.{LookedUp, settled-before, leaf-settled, topOf, calledOf, Settles, Opens, StepEnds, Steps}
-use Rattle.walk.specs.declared.State.{State}
-use Rattle.walk.specs.declared.Step.the-variants as step
-use Rattle.walk.specs.declared.Walk.{Walk}
-use Rattle.walk.specs.declared.Walk.the-variants as walk
-use Rattle.walk.proofs.Decided.{fresh-not, decided-stored, decided-most}
-use Rattle.walk.proofs.Numbers.{cells-small}
+use Rattle.step.specs.Codes.{openMark, Settled, fresh}
+use Rattle.walk.specs.Walk.{Counts, before, WalkReady}
+use Rattle.step.specs.Step.{LookedUp, settled-before, leaf-settled, topOf, calledOf, Settles, Opens, StepEnds, Steps}
+use Rattle.step.specs.declared.State.{State}
+use Rattle.step.specs.declared.Step.the-variants as step
+use Rattle.step.specs.declared.Walk.{Walk}
+use Rattle.step.specs.declared.Walk.the-variants as walk
+use Rattle.step.proofs.Looking.{fresh-not}
+use Rattle.walk.proofs.Decided.{decided-stored, decided-most}
+use Rattle.step.proofs.Numbers.{cells-small}
 use Rattle.walk.proofs.Marks.{stands, settled-full}
 use Rattle.walk.proofs.Standing.{Standing}
 use Rattle.walk.proofs.Stepping.{known}
 use Rattle.walk.proofs.Still.{room-before}
-use Rattle.walk.proofs.Through.{Through, called-within}
+use Rattle.step.proofs.Within.{called-within}
+use Rattle.walk.proofs.Through.{Through}
 
 module _ (rule : ℕ → Rule) (s : List ℕ) (v : ℕ) (closed : Closed v rule) (few : v ≤ 256) (short : length s ≤ 4096) {x : Pair} {O U T W : List ℕ} {y : State}
     (g : Standing rule s v x O U T W y) (room : cells v (length s) ≤ length O) where

@@ -12,7 +12,7 @@ use lib.ListN.{length, take}
 use borrow.Author.Tests.{eq-eqb, ne-eqb}
 use Rattle.schema.specs.Cells.{heldAt, stored}
 use Rattle.schema.specs.Table.{decided}
-use Rattle.walk.specs.Walk.{fresh}
+use Rattle.step.specs.Codes.{fresh}
 
 one-more : (xs : List ℕ) (i : ℕ) → i < length xs → decided (take (suc i) xs) ≡ cond (eqb (heldAt xs i) 0) (decided (take i xs)) (suc (decided (take i xs)))
 unfolding decided
@@ -35,20 +35,6 @@ decided-blank xs i h e = rw (add-one, one-more xs i h, eq-eqb (heldAt xs i) 0 e)
 
 pub decided-more : (xs : List ℕ) (i : ℕ) → i < length xs → (heldAt xs i ≡ 0 → ⊥) → decided (take (i + 1) xs) ≡ decided (take i xs) + 1
 decided-more xs i h e = rw (add-one, one-more xs i h, ne-eqb (heldAt xs i) 0 e, add-one)
-
--- A cell is new where it is blank.
-pub fresh-blank : (c : ℕ) → c ≡ 0 → fresh c ≡ 1
-fresh-blank c e = rw (eq-eqb c 0 e) refl
-
-pub fresh-not : (c : ℕ) → c ≢ 0 → fresh c ≡ 0
-fresh-not c d = rw (ne-eqb c 0 d) refl
-
-pub fresh-small : (c : ℕ) → fresh c ≤ 1
-fresh-small c = go (eqb c 0)
-  where
-    go : (t : Bool) → cond t 1 0 ≤ 1
-    go true = omega arith
-    go false = omega arith
 
 -- A store that is not of a blank decides its cell, if that was new.
 pub decided-stored : (xs : List ℕ) (m i c : ℕ) → i < m → i < length xs → c ≢ 0 → decided (take m (stored xs i c)) ≡ decided (take m xs) + fresh (heldAt xs i)

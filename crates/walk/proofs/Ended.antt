@@ -5,7 +5,6 @@ use mathlib.Core.List.{List, [], _∷_, map, List·Memᴰ, Memᴰ·map, Memᴰ·
 use mathlib.Core.Logic.{_⊎_, inl, inr, _≢_}
 use Prim.Native.Nat.{ℕ, _-_, _≤_, _<_}
 use native.Mathlib.Omega.{arith}
-use borrow.Author.Tests.{eq-eqb, ne-eqb}
 use lib.ListN.{length}
 use Rattle.calls.proofs.Ends.{End, end-value, end-loop, end-halt}
 use Rattle.calls.proofs.Follow.{mem-in, in-mem}
@@ -19,7 +18,7 @@ use Rattle.grammar.specs.Rule.{Rule}
 use Rattle.schema.specs.Cells.{heldAt, stored}
 use Rattle.schema.proofs.Cells.{view}
 use Rattle.schema.specs.Closed.{Closed}
-use Rattle.schema.specs.Derivation.{Pair, _at_, Result, success, failure, Stop, stops, act, result, stopped, loop}
+use Rattle.schema.specs.Derivation.{Pair, _at_, Result, Stop, stops, act, result, stopped, loop}
 use Rattle.schema.specs.Reached.{Reached}
 use Rattle.schema.specs.Table.{Within, cell, cells, held}
 use Rattle.schema.proofs.Answer.{gtsCells, gts-bounded, MarkHas, reached-cell, cell-reached, end-has, end-named, end-full, end-marks}
@@ -28,11 +27,14 @@ use Rattle.schema.proofs.Cell.{pairOf, PairWithin, cell-below, cell-pair, pair-
 use Rattle.schema.proofs.System as schema
 use Rattle.schema.proofs.System.{kindOf}
 use Rattle.schema.proofs.Waiting as waiting
-use Rattle.walk.specs.Walk.{openMark, Settled, Called, Given, resultOf, HeldAt, TableMeans, TableEnds}
+use Rattle.step.specs.Codes.{openMark, Settled, Called, Given, resultOf}
+use Rattle.walk.specs.Walk.{HeldAt, TableMeans, TableEnds}
+use Rattle.step.proofs.Looking.{result-is}
 use Rattle.walk.proofs.Bridge.{top-free, free-kind, called-link}
 use Rattle.walk.proofs.RightTable.{right-marks}
 use Rattle.walk.proofs.Marks.{mark, mark-open, mark-blank, stands}
-use Rattle.walk.proofs.Through.{Through, start-bounded, called-within, settle-through, settle-there}
+use Rattle.step.proofs.Within.{called-within}
+use Rattle.walk.proofs.Through.{Through, start-bounded, settle-through, settle-there}
 
 module _ (rule : ℕ → Rule) (s : List ℕ) (v : ℕ) (closed : Closed v rule) (short : length s ≤ 4096) (x : Pair) (w : PairWithin v (length s) x)
     (O T : List ℕ) (l : List ℕ) where
@@ -105,14 +107,6 @@ module _ (rule : ℕ → Rule) (s : List ℕ) (v : ℕ) (closed : Closed v rule)
       later = rest .later;
       size = rest .size;
     }
-
--- A settled code stands for its result.
-pub result-is : (n c : ℕ) (r : Result) → Settled n c r → resultOf c ≡ r
-result-is n c failure m = rw (eq-eqb c 1 (m .code-is))
-result-is n c (success q) m =
-    let e = m .code-is in
-    let f : c - 5 ≡ q = omega arith in
-    rw (ne-eqb c 1 (λ z. omega arith), f)
 
 -- ---- The three ways to end, from what holds all through.
 

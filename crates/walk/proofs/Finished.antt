@@ -15,8 +15,9 @@ use Rattle.grammar.specs.Refusal.{accepted}
 use Rattle.walk.specs.Reply.{reply, told}
 use Rattle.walk.specs.Finish.{Finishes}
 use Rattle.walk.specs.declared.Answer.{Answer}
-use Rattle.walk.specs.Walk.{openMark, outcomeOf, namedOf, depthOf, TableEnds, WalkEnds, CloseReady, Closes}
-use Rattle.walk.specs.declared.Walk.{Walk}
+use Rattle.step.specs.Codes.{openMark}
+use Rattle.walk.specs.Walk.{outcomeOf, namedOf, depthOf, TableEnds, WalkEnds, CloseReady, Closes}
+use Rattle.step.specs.declared.Walk.{Walk}
 use Rattle.walk.proofs.Decided.{decided-same}
 
 -- Where no cell is open, there is nothing to close.

@@ -1,6 +1,4 @@
 -- Why the walk over the table finds what a question asks.
-pub mod Numbers
-pub mod Looking
 pub mod Marks
 pub mod Bridge
 pub mod RightTable
@@ -8,7 +6,6 @@ pub mod Entry
 pub mod Through
 pub mod Still
 pub mod Ended
-pub mod Calls
 pub mod Standing
 pub mod Stepping
 pub mod Decided

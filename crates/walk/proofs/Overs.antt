@@ -20,15 +20,16 @@ use Rattle.schema.proofs.Laws.{has-one}
 use Rattle.walk.specs.Reply.{Reply, reply, told}
 use Rattle.walk.specs.Finish.{FinishReady, Finishes}
 use Rattle.walk.specs.Over.{OverReady, Over}
-use Rattle.walk.specs.Walk.{openMark, Unsettled, Ends, Settled, Fits, fresh, Counts, before, RightTable, WalkReady, WalkEnds, HeldAt, TableMeans, outcomeOf, namedOf, SettledCode}
+use Rattle.step.specs.Codes.{openMark, Unsettled, Ends, Settled, Fits, fresh}
+use Rattle.walk.specs.Walk.{Counts, before, RightTable, WalkReady, WalkEnds, HeldAt, TableMeans, outcomeOf, namedOf, SettledCode}
 use Rattle.walk.specs.declared.Answer.{Answer}
-use Rattle.walk.specs.declared.Walk.{Walk}
-use Rattle.walk.specs.declared.Walk.the-variants as walk
+use Rattle.step.specs.declared.Walk.{Walk}
+use Rattle.step.specs.declared.Walk.the-variants as walk
 use Rattle.walk.proofs.Decided.{decided-stored, decided-most}
-use Rattle.walk.proofs.Ended.{result-is}
+use Rattle.step.proofs.Looking.{result-is}
 use Rattle.walk.proofs.Finished.{close-ready, no-open, closes-counts}
 use Rattle.walk.proofs.Marks.{settled-not, settled-full, settled-closed, code-of}
-use Rattle.walk.proofs.Numbers.{cells-small}
+use Rattle.step.proofs.Numbers.{cells-small}
 
 -- The code of a result, and of how a walk ended, is one of a cell.
 result-small : (n : ℕ) (r : Result) → Ends n r → code (result r) ≤ 5 + n

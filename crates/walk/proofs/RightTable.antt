@@ -18,7 +18,8 @@ use Rattle.schema.specs.Table.{cell, cells, held}
 use Rattle.schema.proofs.Answer.{gtsCells, means-cell}
 use Rattle.schema.proofs.Cell.{pairOf, PairWithin, cell-pair, pair-within}
 use Rattle.schema.proofs.System.{kind-calls}
-use Rattle.walk.specs.Walk.{Settled, Fits, RightTable}
+use Rattle.step.specs.Codes.{Settled, Fits}
+use Rattle.walk.specs.Walk.{RightTable}
 use Rattle.walk.proofs.Marks.{mark, stands}
 use Rattle.walk.proofs.Bridge.{cell-kind, cell-first, cell-second, settled-at}
 

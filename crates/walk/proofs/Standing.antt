@@ -18,9 +18,10 @@ use Rattle.schema.specs.Derivation.{Pair, _at_, Result, Stop}
 use Rattle.schema.specs.Table.{Within, cell, cells}
 use Rattle.schema.proofs.Held.{heldCells}
 use Rattle.schema.proofs.Cell.{pairOf, PairWithin, cell-pair, pair-cell}
-use Rattle.walk.specs.Walk.{Settled, Called, first-called, second-called, entry, Trail, only-asked, called-by}
-use Rattle.walk.specs.Step.{topOf, calledOf}
-use Rattle.walk.specs.declared.State.{State}
+use Rattle.step.specs.Codes.{Settled, Called, first-called, second-called, entry}
+use Rattle.walk.specs.Walk.{Trail, only-asked, called-by}
+use Rattle.step.specs.Step.{topOf, calledOf}
+use Rattle.step.specs.declared.State.{State}
 use Rattle.walk.proofs.Marks.{mark}
 use Rattle.walk.proofs.Through.{Through}
 

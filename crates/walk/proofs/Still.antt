@@ -8,7 +8,8 @@ use Rattle.grammar.specs.Rule.{Rule}
 use Rattle.schema.proofs.Cells.{stored-length}
 use Rattle.schema.specs.Derivation.{_at_}
 use Rattle.schema.specs.Table.{cell, cells}
-use Rattle.walk.specs.Walk.{Walkable, before, WalkReady}
+use Rattle.step.specs.Codes.{Walkable}
+use Rattle.walk.specs.Walk.{before, WalkReady}
 use Rattle.walk.proofs.Through.{Through}
 
 -- What is asked of the table and the work slice holds all along.

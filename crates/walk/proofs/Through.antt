@@ -16,14 +16,15 @@ use Rattle.calls.proofs.Table.{Mark, blank, opened, settled, Put, cost, weight,
 use Rattle.grammar.specs.Rule.{Rule}
 use Rattle.schema.specs.Cells.{heldAt, stored}
 use Rattle.schema.proofs.Cells.{stored-there, stored-elsewhere, stored-later, stored-length, stored-twice, view, view-stored}
-use Rattle.schema.specs.Closed.{Variable, Closed}
-use Rattle.schema.specs.Derivation.{Pair, _at_, Result, success, failure, gives, act, second}
+use Rattle.schema.specs.Closed.{Closed}
+use Rattle.schema.specs.Derivation.{Pair, _at_, Result, success, failure, gives, act}
 use Rattle.schema.specs.Table.{Within, cell, cells, held}
 use Rattle.schema.proofs.Answer.{gtsCells}
 use Rattle.schema.proofs.Held.{EndsBelow, heldCells, held-bounded}
-use Rattle.schema.proofs.Cell.{PairWithin, cell-below}
-use Rattle.schema.proofs.Closed.{calls-call}
-use Rattle.walk.specs.Walk.{openMark, Unsettled, Ends, Settled, Fits, Called, first-called, second-called, Given, by-leaf, before, WalkReady}
+use Rattle.schema.proofs.Cell.{cell-below}
+use Rattle.step.specs.Codes.{openMark, Unsettled, Ends, Settled, Fits, Called, Given, by-leaf}
+use Rattle.walk.specs.Walk.{before, WalkReady}
+use Rattle.step.proofs.Within.{called-within}
 use Rattle.walk.proofs.Marks.{mark, mark-open, mark-settled, mark-blank, stands}
 use Rattle.walk.proofs.Bridge.{top-free, called-link, given-fits}
 
@@ -58,19 +59,6 @@ start-bounded rule s v closed O f =
     held-bounded rule s v closed (view mark O) (λ i r l e. ends-below (length s) r (stands (length s) (heldAt O i) (settled r) (f i l) e .ends))
 
 module _ (rule : ℕ → Rule) (s : List ℕ) (v : ℕ) (closed : Closed v rule) (few : v ≤ 256) (short : length s ≤ 4096) where
-  pub second-within : (C D p : ℕ) (t : Result) → Variable v C → Variable v D → p ≤ length s → Ends (length s) t → PairWithin v (length s) (second C D p t)
-  second-within C D p (success q) c d l e = record { low = c .0; high = c .1; place = e }
-  second-within C D p failure c d l e = record { low = d .0; high = d .1; place = l }
-
-  -- A pair that is called is within.
-  pub called-within : {T : List ℕ} {k : Bool} {x y : Pair} → PairWithin v (length s) x → Called rule s T k x y → PairWithin v (length s) y
-  called-within w (first-called {A} {B} {C} {D} {p} e) =
-      let c = closed A B C D (calls-call (rule A) s p B C D e) in
-      record { low = c .0 .0; high = c .0 .1; place = w .place }
-  called-within w (second-called {A} {B} {C} {D} {p} {t} e m) =
-      let c = closed A B C D (calls-call (rule A) s p B C D e) in
-      second-within C D p t (c .1) (c .2) (w .place) (m .ends)
-
   module _ (A p : ℕ) (T₀ W₀ : List ℕ) (r : WalkReady rule s v A p T₀ W₀) where
     start-fits : (i : ℕ) → i < cells v (length s) → Fits (length s) (heldAt (before (length s) (A at p) T₀) i)
     start-fits =
@@ -171,7 +159,7 @@ module _ (rule : ℕ → Rule) (s : List ℕ) (v : ℕ) (closed : Closed v rule)
       (g : Through rule s v x O T (cell (length s) (a at p) ∷ stack)) (room : cells v (length s) ≤ length O)
       {k : Bool} (b q : ℕ) (called : Called rule s T k (a at p) (b at q)) (new : Unsettled (held (length s) T (b at q))) where
     pub open-within : Within v (length s) b q
-    open-within = called-within within called
+    open-within = called-within rule s v closed few short within called
 
     open-below : cell (length s) (b at q) < cells v (length s)
     open-below = cell-below v (length s) (b at q) open-within

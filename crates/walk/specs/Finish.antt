@@ -7,11 +7,12 @@ use lib.ListN.{length}
 use Rattle.grammar.specs.Refusal.{accepted}
 use Rattle.schema.specs.Cells.{heldAt}
 use Rattle.schema.specs.Table.{cells, code}
-use Rattle.walk.specs.Reply.{reply, told, Code}
-use Rattle.walk.specs.Walk.{openMark, outcomeOf, namedOf, CloseReady, Closes}
+use Rattle.step.specs.Codes.{Code, openMark}
+use Rattle.walk.specs.Reply.{reply, told}
+use Rattle.walk.specs.Walk.{outcomeOf, namedOf, CloseReady, Closes}
 use Rattle.walk.specs.declared.Answer.{Answer}
-use Rattle.walk.specs.declared.Walk.{Walk}
-use Rattle.walk.specs.declared.Walk.the-variants as walk
+use Rattle.step.specs.declared.Walk.{Walk}
+use Rattle.step.specs.declared.Walk.the-variants as walk
 
 -- After a result no cell is open.
 pub record NothingOpen (n v c : ℕ) (T : List ℕ) : Type 0 where

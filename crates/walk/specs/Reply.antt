@@ -1,7 +1,5 @@
 -- Document 01, "The table engine": what a question is answered. Assumes nothing.
-use mathlib.Core.Logic.{_⊎_}
-use mathlib.Core.Path.{_≡_}
-use Prim.Native.Nat.{ℕ, _≤_}
+use Prim.Native.Nat.{ℕ}
 use Rattle.grammar.specs.Refusal.{Checked, refused, accepted}
 use Rattle.schema.specs.Derivation.{Pair, _at_, success, failure, missing, end, Outcome, result, stopped, loop}
 use Rattle.walk.specs.declared.Answer.{Answer}
@@ -27,7 +25,3 @@ told (Loop A p count) = accepted (reply loop (A at p) count)
 told (Missing A p count) = accepted (reply (stopped missing) (A at p) count)
 told (End A p count) = accepted (reply (stopped end) (A at p) count)
 told (Refused number line) = refused number line
-
--- A cell that holds failure or success.
-abbrev pub Code : ℕ → Type 0
-Code c = (c ≡ 1) ⊎ (5 ≤ c)

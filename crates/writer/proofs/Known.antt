@@ -11,7 +11,7 @@ use Rattle.schema.specs.Derivation.{Pair, _at_, Result, calls, act, second, Der
 use Rattle.schema.specs.Reached.{Reached, first-of, second-of}
 use Rattle.schema.specs.Table.{held}
 use Rattle.schema.proofs.Laws.{derives-one}
-use Rattle.walk.specs.Walk.{Settled}
+use Rattle.step.specs.Codes.{Settled}
 use Rattle.walk.proofs.Marks.{settled-one}
 use Rattle.writer.specs.Writing.{Lower, to-first, to-second, Finished}
 use Rattle.writer.proofs.Visiting.{calls-one}

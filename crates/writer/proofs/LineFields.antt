@@ -5,8 +5,7 @@ use Prim.Native.Nat.{ℕ, _-_, _≤_}
 use borrow.Author.Tests.{eq-eqb, ne-eqb}
 use Rattle.schema.specs.Derivation.{_at_}
 use Rattle.schema.specs.Line.{line, lineOf, lineBytes}
-use Rattle.walk.specs.Reply.{Code}
-use Rattle.walk.specs.Walk.{resultOf}
+use Rattle.step.specs.Codes.{Code, resultOf}
 
 -- A cell that holds a result, and not failure, holds success.
 pub success-code : {c : ℕ} → Code c → c ≢ 1 → 5 ≤ c

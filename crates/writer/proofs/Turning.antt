@@ -18,11 +18,10 @@ use Rattle.schema.specs.Table.{cell, cells, held}
 use Rattle.rules.proofs.Act as declared
 use Rattle.schema.proofs.Cell.{PairWithin, cell-below}
 use Rattle.schema.proofs.Closed.{calls-call}
-use Rattle.walk.specs.Reply.{Code}
-use Rattle.walk.specs.Walk.{Settled, first-called, second-called}
+use Rattle.step.specs.Codes.{Code, Settled, first-called, second-called}
 use Rattle.walk.proofs.Marks.{code-of}
-use Rattle.walk.proofs.Numbers.{cells-small}
-use Rattle.walk.proofs.Through.{called-within}
+use Rattle.step.proofs.Numbers.{cells-small}
+use Rattle.step.proofs.Within.{called-within}
 use Rattle.writer.specs.Writing.{numberOf, CallsReady, TurnsSecond, TurnsCalls, Lower, to-first, to-second, of-calls, Turns, TurnReady, StepReady, pairAt}
 use Rattle.writer.specs.declared.Place.{Place}
 use Rattle.writer.specs.declared.Turn.{Turn}

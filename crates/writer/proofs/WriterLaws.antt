@@ -14,9 +14,9 @@ use Rattle.schema.proofs.Cell.{PairWithin}
 use Rattle.schema.proofs.Closed.{calls-call}
 use Rattle.schema.proofs.Ends.{EndsWithin, derives-ends}
 use Rattle.schema.proofs.Laws.{has-one}
-use Rattle.walk.specs.Walk.{Ends}
+use Rattle.step.specs.Codes.{Ends}
 use Rattle.writer.specs.Writer.{Unwritten, Visits, passed, leaf, node}
-use Rattle.walk.proofs.Through.{second-within}
+use Rattle.step.proofs.Within.{second-within}
 use Rattle.writer.proofs.Lines.{stands-none, stands-last, stands-cases}
 use Rattle.writer.proofs.Visiting.{visit-keeps}
 

@@ -9,8 +9,8 @@ ghost use Rattle.grammar.specs.Words.{ruleIn};
 ghost use Rattle.schema.specs.Derivation.{_at_, Result, second};
 ghost use Rattle.schema.specs.Line.{lineOf, lineBytes};
 ghost use Rattle.schema.specs.Table.{cell, held, cells};
-ghost use Rattle.walk.specs.Reply.{told, Code};
-ghost use Rattle.walk.specs.Walk.{Settled, resultOf};
+ghost use Rattle.step.specs.Codes.{Code, Settled, resultOf};
+ghost use Rattle.walk.specs.Reply.{told};
 ghost use Rattle.writer.specs.Writer.{SaysWriting, WriterPromise};
 ghost use Rattle.writer.specs.Writing.{numberOf, link, TurnsSecond, CallsReady, TurnsCalls, TurnReady, Turns, StepReady, Steps, LinesReady, WriteReady, WriteEnds, AskWriteReady, hasResult};
 use columns::write_row;
@@ -21,11 +21,11 @@ use memo::too_small;
 use rules::Act;
 use rules::act_at;
 use rules::admit;
+use step::Cell;
+use step::cell_number;
+use step::pack;
 use walk::Answer;
-use walk::Cell;
 use walk::blank;
-use walk::cell_number;
-use walk::pack;
 
 // What is next at a pair: a pair that it calls and that has no line yet; or its own line, with the numbers of the lines of the pairs that it
 // calls, counted from 1, both 0 for a leaf.

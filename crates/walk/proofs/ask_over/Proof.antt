@@ -5,7 +5,7 @@ use native.Mathlib.Omega.{arith}
 use lib.ListN.{length}
 use Rattle.schema.specs.Derivation.{_at_, success, failure}
 use Rattle.schema.proofs.Cell.{cell-below}
-use Rattle.walk.proofs.Looking.{held-is, failure-settled, success-settled}
+use Rattle.step.proofs.Looking.{held-is, failure-settled, success-settled}
 use Rattle.walk.proofs.Overs.{over-in, over-settled}
 use borrow.Author.Needs.{needs}
 use Rattle.walk.proofs.ask_over.Statement.{statement}

@@ -1,6 +1,6 @@
 use mathlib.Core.Path.{refl, subst}
 use Rattle.walk.specs.Finish.{FinishReady}
-use Rattle.walk.specs.declared.Walk.the-variants as walk
+use Rattle.step.specs.declared.Walk.the-variants as walk
 use Rattle.walk.proofs.Finished.{none-closes, finishes}
 use borrow.Author.Needs.{needs}
 use Rattle.walk.proofs.finish.Statement.{statement}

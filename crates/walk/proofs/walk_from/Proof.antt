@@ -4,10 +4,10 @@ use lib.ListN.{length}
 use Rattle.grammar.specs.Words.{ruleIn}
 use Rattle.rules.specs.Act.{told}
 use Rattle.schema.specs.Derivation.{success, failure, missing, end}
-use Rattle.walk.specs.Walk.{Settled}
-use Rattle.walk.specs.declared.Walk.the-variants as walk
+use Rattle.step.specs.Codes.{Settled}
+use Rattle.step.specs.declared.Walk.the-variants as walk
 use Rattle.walk.proofs.Counting.{asked-counts}
-use Rattle.walk.proofs.Looking.{failure-settled, leaf-end}
+use Rattle.step.proofs.Looking.{failure-settled, leaf-end}
 use Rattle.walk.proofs.Marks.{settled-full}
 use Rattle.walk.proofs.Stepping.{leaf-ends, stuck-first, asked-bounds}
 use borrow.Author.Needs.{needs}

@@ -4,12 +4,13 @@ use lib.ListN.{length}
 use Rattle.grammar.specs.Words.{ruleIn}
 use Rattle.schema.specs.Derivation.{_at_}
 use Rattle.schema.specs.Table.{cells, held}
-use Rattle.walk.specs.Step.{calledOf}
+use Rattle.step.specs.Step.{calledOf}
 use Rattle.walk.specs.Walk.{before}
 use Rattle.walk.proofs.Counting.{Counting, count-small, counts-on, counts-end}
-use Rattle.walk.proofs.Decided.{fresh-small}
+use Rattle.step.proofs.Looking.{fresh-small}
 use Rattle.walk.proofs.Still.{table-length}
-use Rattle.walk.proofs.Stepping.{toDo, step-bounds, stands-first, ready-still, goes-on, ends}
+use Rattle.step.proofs.Stepped.{step-bounds}
+use Rattle.walk.proofs.Stepping.{toDo, stands-first, ready-still, goes-on, ends}
 use borrow.Author.Needs.{needs}
 use Rattle.walk.proofs.walk_on.Statement.{statement}
 use Rattle.walk.proofs.walk_on.Tie as tie

@@ -2,7 +2,7 @@ use mathlib.Core.Path.{sym, ap, _∙_, subst}
 use Prim.Native.Nat.{ℕ, _<_}
 use native.Mathlib.Omega.{arith}
 use lib.ListN.{length}
-use Rattle.walk.specs.Walk.{openMark}
+use Rattle.step.specs.Codes.{openMark}
 use Rattle.walk.proofs.Overs.{over-in, over-may-walk, over-may-finish, over-small, over-answer}
 use borrow.Author.Needs.{needs}
 use Rattle.walk.proofs.walk_over.Statement.{statement}

@@ -5,8 +5,7 @@ use native.Mathlib.Omega.{arith}
 use lib.ListN.{getD, take, drop, length-take, length-drop}
 use Rattle.schema.specs.Derivation.{_at_}
 use Rattle.schema.specs.Line.{lineOf, lineBytes}
-use Rattle.walk.specs.Reply.{Code}
-use Rattle.walk.specs.Walk.{resultOf}
+use Rattle.step.specs.Codes.{Code, resultOf}
 use Rattle.columns.proofs.RowWriting.{part-put}
 use borrow.Author.Needs.{needs}
 use Rattle.writer.proofs.lay_line.Statement.{statement}

@@ -1,10 +1,9 @@
 use mathlib.Core.Path.{sym, _∙_}
 use Rattle.schema.specs.Derivation.{_at_}
-use Rattle.walk.proofs.Decided.{fresh-blank, fresh-not}
-use Rattle.walk.proofs.Looking.{held-is}
+use Rattle.step.proofs.Looking.{fresh-blank, fresh-not, held-is}
 use borrow.Author.Needs.{needs}
-use Rattle.walk.proofs.newly.Statement.{statement}
-use Rattle.walk.proofs.newly.Tie as tie
+use Rattle.step.proofs.newly.Statement.{statement}
+use Rattle.step.proofs.newly.Tie as tie
 
 cell-number-requires : tie.Need-cell-number-requires
 cell-number-requires c κs = search needs

@@ -2,8 +2,8 @@ use mathlib.Core.Path.{refl, ap, _∙_}
 use Prim.Native.Nat.{ℕ}
 use native.Mathlib.Omega.{arith}
 use borrow.Author.Needs.{needs}
-use Rattle.walk.proofs.settle_top.Statement.{statement}
-use Rattle.walk.proofs.settle_top.Tie as tie
+use Rattle.step.proofs.settle_top.Statement.{statement}
+use Rattle.step.proofs.settle_top.Tie as tie
 use Rattle.schema.specs.Cells.{stored}
 
 cell-number-requires : tie.Need-cell-number-requires

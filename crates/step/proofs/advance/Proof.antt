@@ -6,13 +6,13 @@ use lib.ListN.{length}
 use Rattle.grammar.specs.Words.{ruleIn}
 use Rattle.schema.specs.Derivation.{success, failure}
 use Rattle.schema.proofs.Cell.{cell-below}
-use Rattle.walk.specs.Walk.{Fits, Settled}
-use Rattle.walk.specs.Step.{calledOf, settled-before}
-use Rattle.walk.proofs.Looking.{held-is, failure-settled, success-settled}
-use Rattle.walk.proofs.Stepping.{step-bounds, resume-ready, steps-resume}
+use Rattle.step.specs.Codes.{Fits, Settled}
+use Rattle.step.specs.Step.{calledOf, settled-before}
+use Rattle.step.proofs.Looking.{held-is, failure-settled, success-settled}
+use Rattle.step.proofs.Stepped.{step-bounds, resume-ready, steps-resume}
 use borrow.Author.Needs.{needs}
-use Rattle.walk.proofs.advance.Statement.{statement}
-use Rattle.walk.proofs.advance.Tie as tie
+use Rattle.step.proofs.advance.Statement.{statement}
+use Rattle.step.proofs.advance.Tie as tie
 
 cell-number-requires : tie.Need-cell-number-requires
 cell-number-requires c κs =

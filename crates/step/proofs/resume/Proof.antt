@@ -1,8 +1,8 @@
 use mathlib.Core.Path.{refl}
 use mathlib.Core.Logic.{inl, inr}
 use borrow.Author.Needs.{needs}
-use Rattle.walk.proofs.resume.Statement.{statement}
-use Rattle.walk.proofs.resume.Tie as tie
+use Rattle.step.proofs.resume.Statement.{statement}
+use Rattle.step.proofs.resume.Tie as tie
 
 settle-top-requires : tie.Need-settle-top-requires
 settle-top-requires c κs = search needs

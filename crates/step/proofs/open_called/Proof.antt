@@ -1,9 +1,9 @@
 use mathlib.Core.Path.{ap, _∙_}
 use Prim.Native.Nat.{ℕ}
-use Rattle.walk.specs.Walk.{openMark}
+use Rattle.step.specs.Codes.{openMark}
 use borrow.Author.Needs.{needs}
-use Rattle.walk.proofs.open_called.Statement.{statement}
-use Rattle.walk.proofs.open_called.Tie as tie
+use Rattle.step.proofs.open_called.Statement.{statement}
+use Rattle.step.proofs.open_called.Tie as tie
 use Rattle.schema.specs.Cells.{stored}
 
 cell-number-requires : tie.Need-cell-number-requires

@@ -10,14 +10,13 @@ use Rattle.grammar.specs.Rule.{Rule, call}
 use Rattle.schema.specs.Cells.{stored}
 use Rattle.schema.specs.Derivation.{Pair, _at_, Result, Stop, missing, end, gives, stops, calls, act, second}
 use Rattle.schema.specs.Table.{Within, cell, cells, held}
-use Rattle.walk.specs.Reply.{Code}
-use Rattle.walk.specs.Walk.{openMark, Unsettled, Settled, Called, Walkable, entry, resultOf}
-use Rattle.walk.specs.declared.Cell.{Cell}
-use Rattle.walk.specs.declared.State.{State}
-use Rattle.walk.specs.declared.Step.{Step}
-use Rattle.walk.specs.declared.Step.the-variants as step
-use Rattle.walk.specs.declared.Walk.{Walk}
-use Rattle.walk.specs.declared.Walk.the-variants as walk
+use Rattle.step.specs.Codes.{Code, openMark, Unsettled, Settled, Called, Walkable, entry, resultOf}
+use Rattle.step.specs.declared.Cell.{Cell}
+use Rattle.step.specs.declared.State.{State}
+use Rattle.step.specs.declared.Step.{Step}
+use Rattle.step.specs.declared.Step.the-variants as step
+use Rattle.step.specs.declared.Walk.{Walk}
+use Rattle.step.specs.declared.Walk.the-variants as walk
 
 -- ---- Looking a pair up.
 

@@ -2,10 +2,10 @@ use mathlib.Core.Bool.{true, false}
 use mathlib.Core.Path.{refl, _∙_}
 use denote.Ref.{now}
 use Rattle.rules.proofs.RuleWords.{second-in}
-use Rattle.walk.proofs.Calls.{code-large, after-failure, after-success}
+use Rattle.step.proofs.Calls.{code-large, after-failure, after-success}
 use borrow.Author.Needs.{needs}
-use Rattle.walk.proofs.to_second.Statement.{statement}
-use Rattle.walk.proofs.to_second.Tie as tie
+use Rattle.step.proofs.to_second.Statement.{statement}
+use Rattle.step.proofs.to_second.Tie as tie
 
 second-of-requires : tie.Need-second-of-requires
 second-of-requires c κs = search needs

@@ -4,8 +4,7 @@ use mathlib.Core.Logic.{inl, inr, _≢_}
 use Prim.Native.Nat.{ℕ, _-_, _≤_}
 use borrow.Author.Tests.{eq-eqb, ne-eqb}
 use Rattle.schema.specs.Derivation.{_at_, second}
-use Rattle.walk.specs.Reply.{Code}
-use Rattle.walk.specs.Walk.{resultOf}
+use Rattle.step.specs.Codes.{Code, resultOf}
 
 -- A code that is not that of a failure is that of a success.
 pub code-large : (c : ℕ) → Code c → c ≢ 1 → 5 ≤ c

@@ -1,4 +1,4 @@
-use Rattle.walk.specs.Walk.{Settled}
+use Rattle.step.specs.Codes.{Settled}
 use mathlib.Core.Path.{refl, sym, ap, _∙_, subst}
 use mathlib.Core.Logic.{inl, inr}
 use Prim.Native.Nat.{ℕ, _<_}
@@ -9,12 +9,12 @@ use Rattle.rules.specs.Act.{told}
 use Rattle.schema.specs.Cells.{stored}
 use Rattle.schema.proofs.Cells.{stored-length}
 use Rattle.schema.specs.Derivation.{success, failure}
-use Rattle.walk.specs.Step.{leaf-settled}
-use Rattle.walk.proofs.Looking.{failure-settled, leaf-end}
-use Rattle.walk.proofs.Stepping.{step-bounds, resume-ready, steps-resume, opens-called}
+use Rattle.step.specs.Step.{leaf-settled}
+use Rattle.step.proofs.Looking.{failure-settled, leaf-end}
+use Rattle.step.proofs.Stepped.{step-bounds, resume-ready, steps-resume, opens-called}
 use borrow.Author.Needs.{needs}
-use Rattle.walk.proofs.advance_unsettled.Statement.{statement}
-use Rattle.walk.proofs.advance_unsettled.Tie as tie
+use Rattle.step.proofs.advance_unsettled.Statement.{statement}
+use Rattle.step.proofs.advance_unsettled.Tie as tie
 
 act-at-requires : tie.Need-act-at-requires
 act-at-requires c κs =

@@ -1,7 +1,7 @@
 use native.Mathlib.Omega.{arith}
 use borrow.Author.Needs.{needs}
-use Rattle.walk.proofs.entry_of.Statement.{statement}
-use Rattle.walk.proofs.entry_of.Tie as tie
+use Rattle.step.proofs.entry_of.Statement.{statement}
+use Rattle.step.proofs.entry_of.Tie as tie
 
 pack-requires : tie.Need-pack-requires
 pack-requires c κs = search needs

@@ -1,0 +1,6 @@
+-- Why a step does what it says.
+pub mod Numbers
+pub mod Within
+pub mod Looking
+pub mod Calls
+pub mod Stepped

@@ -1,0 +1,281 @@
+// One step of the walk over a lent table: the called pair is looked up, and settled, opened or gone on with. Cells, and where the walk stands.
+ghost use mathlib.Core.Path.{_≡_};
+ghost use Prim.Native.Nat.{_+_, _/_, _%_, _≤_, _<_};
+ghost use lib.Dec.{eqb};
+ghost use lib.ListN.{length, set};
+ghost use Rattle.grammar.specs.Words.{ruleIn};
+ghost use Rattle.schema.specs.Cells.{heldAt, stored};
+ghost use Rattle.schema.specs.Derivation.{_at_};
+ghost use Rattle.schema.specs.Table.{cell, held};
+ghost use Rattle.step.specs.Codes.{openMark, Unsettled, Code, packed, entry, fresh};
+ghost use Rattle.step.specs.Step.{topOf, calledOf, StepReady, ToSecond, GoesBack, ResumeReady, Resumes, Steps};
+use grammar::sheet::Rules;
+use rules::Act;
+use rules::act_at;
+use rules::second_of;
+
+// What a cell of the table holds (document 01: blank, failure, loop, missing, end, or success ending at a position).
+pub struct Cell(pub u32);
+
+impl Cell {
+    // "0 for blank"
+    pub const BLANK: Cell = Cell(0);
+
+    // "1 for failure"
+    pub const FAILURE: Cell = Cell(1);
+
+    // "2 loop"
+    pub const LOOP: Cell = Cell(2);
+
+    // "3 missing"
+    pub const MISSING: Cell = Cell(3);
+
+    // "4 end"
+    pub const END: Cell = Cell(4);
+
+    // "5 + q for success ending at q", at 0.
+    pub const SUCCESS: Cell = Cell(5);
+
+    // A pair that is asked and not decided yet, above every code.
+    pub const OPEN: Cell = Cell(4294967295);
+
+    // Success ending at a position.
+    pub fn success(end: u32) -> Cell
+        requires { ⌜ end ≤ 4096 ⌝ }
+        ensures { λ r. ⌜ r .0 ≡ 5 + end ⌝ }
+    {
+        Cell(Cell::SUCCESS.0 + end)
+    }
+
+    // The cell of a number.
+    pub fn load(table: &[u32], index: usize) -> Cell
+        requires { ⌜ index < length (now table) ⌝ }
+        ensures { λ r. ⌜ r .0 ≡ heldAt (now (table .entry)) index ⌝ }
+    {
+        Cell(table[index])
+    }
+
+    // Puts the cell at a number.
+    pub fn store(self, table: &mut [u32], index: usize)
+        requires { ⌜ index < length (now table) ⌝ }
+        ensures { λ _. ⌜ now (table .exit) ≡ stored (now (table .entry)) index (self .0) ⌝ }
+    {
+        table[index] = self.0;
+    }
+}
+
+// Where the walk stands: the latest open pair, the pair that it calls, whether that is its second call, and how many callers the work slice
+// holds.
+pub struct State {
+    pub variable: u32,
+    pub position: u32,
+    pub called: u32,
+    pub place: u32,
+    pub second: bool,
+    pub depth: usize,
+}
+
+// What a walk ends with: the cell of a result; a pair met a second time, and the one that called it; or the pair that has no rule or no byte;
+// but for a result with the number of callers in the work slice.
+pub enum Walk {
+    Settled(Cell),
+    Loop(u32, u32, u32, u32, usize),
+    Missing(u32, u32, usize),
+    End(u32, u32, usize),
+}
+
+// What a step comes to.
+pub enum Step {
+    On(State),
+    Ended(Walk),
+}
+
+// The number of a pair's cell, on n bytes.
+pub fn cell_number(n: usize, variable: u32, position: u32) -> usize
+    requires { ⌜ (1 ≤ variable) × (variable ≤ 256) × (n ≤ 4096) × (position ≤ n) ⌝ }
+    ensures { λ r. ⌜ r ≡ cell n (variable at position) ⌝ }
+{
+    (variable as usize - 1) * (n + 1) + position as usize
+}
+
+// A pair as one number.
+pub fn pack(variable: u32, position: u32) -> u32
+    requires { ⌜ (variable ≤ 256) × (position ≤ 4096) ⌝ }
+    ensures { λ r. ⌜ r ≡ packed (variable at position) ⌝ }
+{
+    8192 * variable + position
+}
+
+// The number that the work slice holds for a caller, and for whether what it called is its second call.
+fn entry_of(x: State) -> u32
+    requires { ⌜ (x .variable ≤ 256) × (x .position ≤ 4096) ⌝ }
+    ensures { λ r. ⌜ r ≡ entry (x .second) (topOf x) ⌝ }
+{
+    let pair = 2 * pack(x.variable, x.position);
+    let second = x.second;
+    if second {
+        return pair + 1;
+    }
+    pair
+}
+
+// The state at the caller that an entry of the work slice holds, once the top of x is settled.
+fn caller_of(x: State, entry: u32, depth: usize) -> State
+    ensures { λ r. ⌜ (r .variable ≡ entry / 16384) × (r .position ≡ entry / 2 % 8192) × (r .second ≡ eqb (entry % 2) 1) × (calledOf r ≡ topOf x) × (r .depth ≡ depth) ⌝ }
+{
+    State {
+        variable: entry / 16384,
+        position: entry / 2 % 8192,
+        called: x.variable,
+        place: x.position,
+        second: entry % 2 == 1,
+        depth,
+    }
+}
+
+// The state at the second call of the top of x, whose first call has a result: c where it ends, or d where the pair stands.
+fn to_second(rules: &Rules, x: State, first: Cell) -> State
+    requires { ⌜ (1 ≤ x .variable) × (x .variable ≤ 256) × Code (first .0) ⌝ }
+    ensures { λ r. ⌜ ToSecond (ruleIn (now (rules .entry))) x first r ⌝ }
+{
+    if first.0 == Cell::FAILURE.0 {
+        let d = second_of(rules, x.variable, false);
+        return State {
+            variable: x.variable,
+            position: x.position,
+            called: d,
+            place: x.position,
+            second: true,
+            depth: x.depth,
+        };
+    }
+    let c = second_of(rules, x.variable, true);
+    State {
+        variable: x.variable,
+        position: x.position,
+        called: c,
+        place: first.0 - Cell::SUCCESS.0,
+        second: true,
+        depth: x.depth,
+    }
+}
+
+// Opens the called pair, and notes its caller.
+fn open_called(n: usize, table: &mut [u32], work: &mut [u32], x: State)
+    requires { ⌜ (1 ≤ x .called) × (x .called ≤ 256) × (n ≤ 4096) × (x .place ≤ n) × (cell n (calledOf x) < length (now table)) × (x .variable ≤ 256) × (x .position ≤ 4096) × (x .depth < length (now work)) ⌝ }
+    ensures opens { λ _. ⌜ now (table .exit) ≡ stored (now (table .entry)) (cell n (calledOf x)) openMark ⌝ }
+    ensures notes { λ _. ⌜ now (work .exit) ≡ set (now (work .entry)) (x .depth) (entry (x .second) (topOf x)) ⌝ }
+{
+    Cell::OPEN.store(table, cell_number(n, x.called, x.place));
+    let depth = x.depth;
+    work[depth] = entry_of(x);
+}
+
+// Settles the latest open pair, and goes back to its caller.
+fn settle_top(n: usize, table: &mut [u32], work: &[u32], x: State, cell: Cell) -> Step
+    requires { ⌜ (1 ≤ x .variable) × (x .variable ≤ 256) × (n ≤ 4096) × (x .position ≤ n) × (Rattle.schema.specs.Table.cell n (topOf x) < length (now table)) × (x .depth ≤ length (now work)) ⌝ }
+    ensures stores { λ _. ⌜ now (table .exit) ≡ stored (now (table .entry)) (Rattle.schema.specs.Table.cell n (topOf x)) (cell .0) ⌝ }
+    ensures returns { λ r. ⌜ GoesBack (now (work .entry)) x cell r ⌝ }
+{
+    cell.store(table, cell_number(n, x.variable, x.position));
+    if x.depth == 0 {
+        return Step::Ended(Walk::Settled(cell));
+    }
+    let depth = x.depth - 1;
+    Step::On(caller_of(x, work[depth], depth))
+}
+
+// Goes on with the result of the called pair: to the second call, or back to the caller with the latest open pair settled.
+fn resume(rules: &Rules, n: usize, table: &mut [u32], work: &[u32], x: State, cell: Cell) -> Step
+    requires { ⌜ ResumeReady n (now table) (now work) x (cell .0) ⌝ }
+    ensures { λ r. ⌜ Resumes (ruleIn (now (rules .entry))) n (now (table .entry)) (now (work .entry)) (now (table .exit)) x cell r ⌝ }
+{
+    if x.second {
+        return settle_top(n, table, work, x, cell);
+    }
+    Step::On(to_second(rules, x, cell))
+}
+
+// One step of the walk, where the called pair is not settled: a leaf is settled at once, and any other pair is opened.
+fn advance_unsettled(
+    rules: &Rules,
+    input: &[u8],
+    variables: u32,
+    table: &mut [u32],
+    work: &mut [u32],
+    x: State,
+) -> Step
+    requires { ⌜ StepReady (ruleIn (now rules)) (now input) variables (now table) (now work) x × Unsettled (held (length (now input)) (now table) (calledOf x)) ⌝ }
+    ensures { λ r. ⌜ Steps (ruleIn (now (rules .entry))) (now (input .entry)) (now (table .entry)) (now (work .entry)) (now (table .exit)) (now (work .exit)) x r ⌝ }
+{
+    let n = input.len();
+    match act_at(rules, input, x.called, x.place) {
+        Act::Success(end) => {
+            let leaf = Cell::success(end);
+            leaf.store(table, cell_number(n, x.called, x.place));
+            resume(rules, n, table, work, x, leaf)
+        }
+        Act::Failure => {
+            let leaf = Cell::FAILURE;
+            leaf.store(table, cell_number(n, x.called, x.place));
+            resume(rules, n, table, work, x, leaf)
+        }
+        Act::Calls(b, _, _) => {
+            open_called(n, table, work, x);
+            Step::On(State {
+                variable: x.called,
+                position: x.place,
+                called: b,
+                place: x.place,
+                second: false,
+                depth: x.depth + 1,
+            })
+        }
+        Act::Missing => {
+            open_called(n, table, work, x);
+            Step::Ended(Walk::Missing(x.called, x.place, x.depth + 1))
+        }
+        Act::End => {
+            open_called(n, table, work, x);
+            Step::Ended(Walk::End(x.called, x.place, x.depth + 1))
+        }
+    }
+}
+
+// One step of the walk: the called pair is looked up in the table.
+pub fn advance(
+    rules: &Rules,
+    input: &[u8],
+    variables: u32,
+    table: &mut [u32],
+    work: &mut [u32],
+    x: State,
+) -> Step
+    requires { ⌜ StepReady (ruleIn (now rules)) (now input) variables (now table) (now work) x ⌝ }
+    ensures { λ r. ⌜ Steps (ruleIn (now (rules .entry))) (now (input .entry)) (now (table .entry)) (now (work .entry)) (now (table .exit)) (now (work .exit)) x r ⌝ }
+{
+    let n = input.len();
+    let found = Cell::load(table, cell_number(n, x.called, x.place));
+    if found.0 == Cell::FAILURE.0 {
+        return resume(rules, n, table, work, x, Cell::FAILURE);
+    }
+    if found.0 < Cell::SUCCESS.0 {
+        return advance_unsettled(rules, input, variables, table, work, x);
+    }
+    if found.0 == Cell::OPEN.0 {
+        let end = Walk::Loop(x.called, x.place, x.variable, x.position, x.depth);
+        return Step::Ended(end);
+    }
+    resume(rules, n, table, work, x, found)
+}
+
+// How many cells the next number of a pair's cell decides: one where it is blank.
+pub fn newly(n: usize, table: &[u32], variable: u32, position: u32) -> u32
+    requires { ⌜ (1 ≤ variable) × (variable ≤ 256) × (n ≤ 4096) × (position ≤ n) × (cell n (variable at position) < length (now table)) ⌝ }
+    ensures { λ r. ⌜ r ≡ fresh (held n (now (table .entry)) (variable at position)) ⌝ }
+{
+    if Cell::load(table, cell_number(n, variable, position)).0 == Cell::BLANK.0 {
+        return 1;
+    }
+    0
+}
