@@ -24,7 +24,7 @@ use Rattle.walk.specs.Reply.{Reply, outcomeOf, countOf, told}
 use Rattle.writer.specs.Writer.{Writes, writerOf, SaysWriting, RepliesWriting, WriterPromise}
 use Rattle.writer.specs.declared.Written.{Written}
 use Rattle.writer.proofs.LinesNumber.{lines-number}
-use Rattle.step.proofs.Numbers.{cells-small}
+use Rattle.cells.proofs.Numbers.{cells-small}
 use Rattle.memo.proofs.Result.{count-is, count-most, outcome-is}
 use Rattle.backtrack.specs.Run as run
 use Rattle.backtrack.specs.declared.Ending.{Ending}

@@ -4,8 +4,8 @@ ghost use mathlib.Core.Path.{_≡_};
 ghost use Rattle.walk.specs.Reply.{told};
 ghost use Rattle.memo.specs.Verdict.{numbers};
 ghost use Rattle.entryreader.specs.Codes.{codeOf, VerdictCode, returned, reported, Fits, QuestionNumbers};
+use cells::Cell;
 use memo::Judgement;
-use step::Cell;
 use walk::Answer;
 
 // The code of a verdict, or 100 plus the number of a refusal.

@@ -11,13 +11,13 @@ ghost use Rattle.schema.specs.Verdict.{closedBy};
 ghost use Rattle.walk.specs.Reply.{told};
 ghost use Rattle.memo.specs.Answer.{AskReady, Says, QuestionPromise};
 ghost use Rattle.memo.specs.Verdict.{numbers, judged, VerdictPromise};
+use cells::blank;
 use grammar::sheet::Rules;
 use grammar::sheet::Sheet;
 use grammar::sheet::read_sheet;
 use rules::admit;
 use walk::Answer;
 use walk::ask_over;
-use walk::blank;
 
 // Asks about a pair, the table blanked first.
 pub fn ask(

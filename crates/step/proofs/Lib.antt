@@ -1,5 +1,4 @@
 -- Why a step does what it says.
-pub mod Numbers
 pub mod Within
 pub mod Looking
 pub mod Calls

@@ -16,7 +16,7 @@ use Rattle.schema.proofs.Closed.{calls-call}
 use Rattle.schema.proofs.Cell.{cell-below}
 use Rattle.step.specs.Codes.{Code, openMark, Unsettled, Settled, Called, first-called, second-called, entry, resultOf}
 use Rattle.step.specs.Step.{LookedUp, settled-before, leaf-settled, topOf, calledOf, StepReady, Settles, GoesBack, ToSecond, ResumeReady, Resumes, Opens, Steps}
-use Rattle.step.specs.declared.Cell.{Cell}
+use Rattle.cells.specs.declared.Cell.{Cell}
 use Rattle.step.specs.declared.State.{State}
 use Rattle.step.specs.declared.Step.{Step}
 use Rattle.step.specs.declared.Step.the-variants as step

@@ -6,6 +6,7 @@ use mathlib.Core.Path.{_≡_}
 use Prim.Native.Nat.{ℕ, _+_, _-_, _*_, _≤_, _<_}
 use lib.Dec.{eqb}
 use lib.ListN.{length}
+use Rattle.cells.specs.Packed.{packed}
 use Rattle.grammar.specs.Rule.{Rule}
 use Rattle.schema.specs.Cells.{heldAt}
 use Rattle.schema.specs.Closed.{Closed}
@@ -68,10 +69,6 @@ abbrev pub fresh : ℕ → ℕ
 fresh c = cond (eqb c 0) 1 0
 
 -- ---- Callers in the work slice.
-
--- A pair as one number.
-abbrev pub packed : Pair → ℕ
-packed (A at p) = 8192 * A + p
 
 -- A caller in the work slice: the pair, and whether what it called is its second call.
 abbrev pub entry : Bool → Pair → ℕ

@@ -6,8 +6,8 @@ ghost use Rattle.backtrack.specs.Run.{told as ended};
 ghost use Rattle.checker.specs.Checker.{told as claimed};
 ghost use Rattle.trials.specs.Numbers.{returned, reported, Fits, ranCode, runNumbers, RunNumbers, replyCode, writerNumbers, WriterNumbers, claimCode, claimNumbers, CheckNumbers};
 use backtrack::Ending;
+use cells::Cell;
 use checker::Claim;
-use step::Cell;
 use walk::Answer;
 
 // The code of a run whose moves are spent.

@@ -21,7 +21,7 @@ use Rattle.step.specs.declared.Walk.{Walk}
 use Rattle.step.specs.declared.Walk.the-variants as walk
 use Rattle.step.proofs.Looking.{fresh-not}
 use Rattle.walk.proofs.Decided.{decided-stored, decided-most}
-use Rattle.step.proofs.Numbers.{cells-small}
+use Rattle.cells.proofs.Numbers.{cells-small}
 use Rattle.walk.proofs.Marks.{stands, settled-full}
 use Rattle.walk.proofs.Standing.{Standing}
 use Rattle.walk.proofs.Stepping.{known}

@@ -29,7 +29,7 @@ use Rattle.walk.proofs.Decided.{decided-stored, decided-most}
 use Rattle.step.proofs.Looking.{result-is}
 use Rattle.walk.proofs.Finished.{close-ready, no-open, closes-counts}
 use Rattle.walk.proofs.Marks.{settled-not, settled-full, settled-closed, code-of}
-use Rattle.step.proofs.Numbers.{cells-small}
+use Rattle.cells.proofs.Numbers.{cells-small}
 
 -- The code of a result, and of how a walk ended, is one of a cell.
 result-small : (n : ℕ) (r : Result) → Ends n r → code (result r) ≤ 5 + n

@@ -19,7 +19,7 @@ use Rattle.schema.proofs.Cell.{pairOf, PairWithin, cell-below, cell-pair, pair-
 use Rattle.step.specs.Codes.{openMark, Settled, Called, first-called, second-called, Given, by-leaf, by-calls, entry, resultOf}
 use Rattle.walk.specs.Walk.{Trail, nothing-open, before, WalkReady, WalkEnds, TableEnds, outcomeOf, namedOf, depthOf, StopsAt, SettledCode}
 use Rattle.step.specs.Step.{LookedUp, settled-before, leaf-settled, topOf, calledOf, StepReady, Seconds, Settles, Returns, Opens, Descends, Stuck, StepEnds, Steps}
-use Rattle.step.specs.declared.Cell.{Cell}
+use Rattle.cells.specs.declared.Cell.{Cell}
 use Rattle.step.specs.declared.State.{State}
 use Rattle.step.specs.declared.Step.the-variants as step
 use Rattle.step.specs.declared.Walk.{Walk}

@@ -1,8 +1,7 @@
 // One walk over one lent table, from any table: what a pair has, found by calls and looked up in the table, the callers in a lent work slice.
 ghost use mathlib.Core.Path.{_≡_};
-ghost use mathlib.Core.List.{_++_};
 ghost use Prim.Native.Nat.{ℕ, _+_, _≤_, _<_};
-ghost use lib.ListN.{length, drop, replicate};
+ghost use lib.ListN.{length};
 ghost use Rattle.grammar.specs.Refusal.{accepted};
 ghost use Rattle.grammar.specs.Words.{ruleIn};
 ghost use Rattle.schema.specs.Cells.{stored};
@@ -14,15 +13,15 @@ ghost use Rattle.walk.specs.Reply.{told, reply};
 ghost use Rattle.walk.specs.Walk.{WalkReady, Counts, WalkEnds, before, CloseReady, Closes};
 ghost use Rattle.walk.specs.Finish.{FinishReady, Finishes};
 ghost use Rattle.walk.specs.Over.{OverReady, Over};
+use cells::Cell;
+use cells::cell_number;
 use grammar::sheet::Rules;
 use rules::Act;
 use rules::act_at;
-use step::Cell;
 use step::State;
 use step::Step;
 use step::Walk;
 use step::advance;
-use step::cell_number;
 use step::newly;
 
 // How a walk ended, and how many cells it gave their first number.
@@ -111,18 +110,6 @@ fn walk_from(
             end: Walk::End(variable, position, 0),
             count: 0,
         },
-    }
-}
-
-// Blanks the first cells of the table.
-pub fn blank(table: &mut [u32], size: usize)
-    requires { ⌜ size ≤ length (now table) ⌝ }
-    ensures { λ _. ⌜ now (table .exit) ≡ replicate size 0 ++ drop size (now (table .entry)) ⌝ }
-{
-    let mut i: usize = 0;
-    while i < size {
-        Cell::BLANK.store(table, i);
-        i += 1;
     }
 }
 

@@ -16,7 +16,8 @@ use Rattle.schema.specs.Reached.{itself}
 use Rattle.schema.specs.Table.{cell, cells, held}
 use Rattle.schema.proofs.Cell.{PairWithin, cell-below, cell-one}
 use Rattle.schema.proofs.Laws.{derives-one}
-use Rattle.step.specs.Codes.{packed, Settled}
+use Rattle.cells.specs.Packed.{packed}
+use Rattle.step.specs.Codes.{Settled}
 use Rattle.step.proofs.Looking.{result-is}
 use Rattle.writer.specs.declared.Place.{Place}
 use Rattle.writer.specs.declared.Step.the-variants as step

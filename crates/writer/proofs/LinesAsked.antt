@@ -19,7 +19,7 @@ use Rattle.schema.proofs.Laws.{has-one}
 use Rattle.walk.specs.Reply.{Reply, reply, outcomeOf}
 use Rattle.memo.specs.Answer.{Says}
 use Rattle.step.specs.Codes.{Settled}
-use Rattle.step.proofs.Numbers.{cells-small}
+use Rattle.cells.proofs.Numbers.{cells-small}
 use Rattle.walk.proofs.Cleared.{cleared, cleared-at, cleared-length, cleared-later}
 use Rattle.writer.specs.Writer.{Lines, SaysWriting}
 use Rattle.writer.specs.Writing.{noLink, WriteReady, WriteEnds, AskWriteReady, LinesReady, hasResult}

@@ -21,7 +21,7 @@ use Rattle.schema.specs.Table.{cell}
 use Rattle.schema.proofs.Answer.{reached-cell}
 use Rattle.schema.proofs.Cell.{PairWithin, cell-one}
 use Rattle.schema.proofs.Laws.{has-one}
-use Rattle.step.specs.Codes.{packed}
+use Rattle.cells.specs.Packed.{packed}
 use Rattle.writer.specs.Writer.{Unwritten}
 use Rattle.writer.specs.Writing.{numberOf, link, noLink}
 use Rattle.writer.proofs.Known.{Known, apart}

@@ -20,7 +20,7 @@ use Rattle.schema.proofs.Cell.{PairWithin, cell-below}
 use Rattle.schema.proofs.Closed.{calls-call}
 use Rattle.step.specs.Codes.{Code, Settled, first-called, second-called}
 use Rattle.walk.proofs.Marks.{code-of}
-use Rattle.step.proofs.Numbers.{cells-small}
+use Rattle.cells.proofs.Numbers.{cells-small}
 use Rattle.step.proofs.Within.{called-within}
 use Rattle.writer.specs.Writing.{numberOf, CallsReady, TurnsSecond, TurnsCalls, Lower, to-first, to-second, of-calls, Turns, TurnReady, StepReady, pairAt}
 use Rattle.writer.specs.declared.Place.{Place}

@@ -15,7 +15,8 @@ use Rattle.schema.specs.Reached.{Reached}
 use Rattle.schema.specs.Table.{Within, cell, cells, held}
 use Rattle.walk.specs.Reply.{Reply, reply}
 use Rattle.memo.specs.Answer.{AskReady}
-use Rattle.step.specs.Codes.{packed, Settled, resultOf}
+use Rattle.cells.specs.Packed.{packed}
+use Rattle.step.specs.Codes.{Settled, resultOf}
 use Rattle.writer.specs.Writer.{Visits}
 use Rattle.writer.specs.declared.Place.{Place}
 use Rattle.writer.specs.declared.Turn.{Turn}

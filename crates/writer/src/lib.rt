@@ -13,6 +13,10 @@ ghost use Rattle.step.specs.Codes.{Code, Settled, resultOf};
 ghost use Rattle.walk.specs.Reply.{told};
 ghost use Rattle.writer.specs.Writer.{SaysWriting, WriterPromise};
 ghost use Rattle.writer.specs.Writing.{numberOf, link, TurnsSecond, CallsReady, TurnsCalls, TurnReady, Turns, StepReady, Steps, LinesReady, WriteReady, WriteEnds, AskWriteReady, hasResult};
+use cells::Cell;
+use cells::blank;
+use cells::cell_number;
+use cells::pack;
 use columns::write_row;
 use grammar::sheet::Rules;
 use grammar::sheet::Sheet;
@@ -21,11 +25,7 @@ use memo::too_small;
 use rules::Act;
 use rules::act_at;
 use rules::admit;
-use step::Cell;
-use step::cell_number;
-use step::pack;
 use walk::Answer;
-use walk::blank;
 
 // What is next at a pair: a pair that it calls and that has no line yet; or its own line, with the numbers of the lines of the pairs that it
 // calls, counted from 1, both 0 for a leaf.

@@ -1,6 +1,6 @@
 use native.Mathlib.Omega.{arith}
 use borrow.Author.Tests.{lt-ltb, le-ltb}
-use Rattle.step.proofs.Numbers.{cells-small}
+use Rattle.cells.proofs.Numbers.{cells-small}
 use borrow.Author.Needs.{needs}
 use Rattle.memo.proofs.too_small.Statement.{statement}
 use Rattle.memo.proofs.too_small.Tie as tie

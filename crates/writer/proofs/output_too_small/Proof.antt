@@ -1,4 +1,4 @@
-use Rattle.step.proofs.Numbers.{cells-small}
+use Rattle.cells.proofs.Numbers.{cells-small}
 use native.Mathlib.Omega.{arith}
 use borrow.Author.Needs.{needs}
 use Rattle.writer.proofs.output_too_small.Statement.{statement}

@@ -1,9 +1,9 @@
 use Prim.Native.Nat.{_+_, _-_}
 use native.Mathlib.Omega.{arith}
-use Rattle.step.proofs.Numbers.{row-bound}
+use Rattle.cells.proofs.Numbers.{row-bound}
 use borrow.Author.Needs.{needs}
-use Rattle.step.proofs.cell_number.Statement.{statement}
-use Rattle.step.proofs.cell_number.Tie as tie
+use Rattle.cells.proofs.cell_number.Statement.{statement}
+use Rattle.cells.proofs.cell_number.Tie as tie
 
 sub-result : tie.Need-sub-result
 sub-result c = search needs

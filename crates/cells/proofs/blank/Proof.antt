@@ -5,8 +5,8 @@ use native.Mathlib.Omega.{arith}
 use lib.ListN.{length, replicate, drop}
 use borrow.Author.Fill.{fill-more}
 use borrow.Author.Needs.{needs}
-use Rattle.walk.proofs.blank.Statement.{statement}
-use Rattle.walk.proofs.blank.Tie as tie
+use Rattle.cells.proofs.blank.Statement.{statement}
+use Rattle.cells.proofs.blank.Tie as tie
 use Rattle.schema.specs.Cells.{stored}
 use Rattle.schema.proofs.Cells.{stored-length}
 

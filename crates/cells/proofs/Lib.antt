@@ -1,0 +1,2 @@
+-- The numbers of cells are small.
+pub mod Numbers

@@ -1,0 +1,2 @@
+-- How cells and pairs are held.
+pub mod Packed
