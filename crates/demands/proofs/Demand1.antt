@@ -13,14 +13,14 @@ use Rattle.grammar.specs.Refusal.{Checked, refused, accepted}
 use Rattle.grammar.specs.Sheet.{Grammar}
 use Rattle.grammar.specs.Order.{FirstHolds}
 use Rattle.schema.specs.Derivation.{Pair, _at_, success, failure, missing, end, Outcome, result, stopped, loop}
-use Rattle.schema.specs.Handed.{Handed, handed, asked, questionOf, verdictOf}
+use Rattle.schema.specs.Handed.{Handed, handed, asked, questionOf, verdictOf, writerOf}
 use Rattle.schema.specs.Machine.{Ran}
 use Rattle.schema.specs.Verdict.{verdictCode}
 use Rattle.schema.proofs.CallRefusals.{call-refused}
 use Rattle.walk.specs.Reply.{Reply, reply, told}
 use Rattle.memo.specs.Answer.{Replies, QuestionPromise}
 use Rattle.memo.specs.Verdict.{numbers, judged, Judges, VerdictPromise}
-use Rattle.writer.specs.Writer.{writerOf, RepliesWriting, WriterPromise}
+use Rattle.writer.specs.Writer.{RepliesWriting, WriterPromise}
 use Rattle.walk.specs.declared.Answer.{Answer}
 use Rattle.writer.specs.declared.Written.{Written}
 use Rattle.memo.specs.declared.Judgement.{Judgement}

@@ -11,7 +11,7 @@ use Rattle.grammar.specs.Refusal.{Checked, accepted}
 use Rattle.grammar.specs.Sheet.{Grammar}
 use Rattle.grammar.proofs.Accepted.{grammar-in-range}
 use Rattle.schema.specs.Derivation.{Pair, _at_, Result, Derives, Outcome, result, Has}
-use Rattle.schema.specs.Handed.{Handed, handed, asked}
+use Rattle.schema.specs.Handed.{Handed, handed, asked, writerOf}
 use Rattle.schema.specs.Line.{linesBytes}
 use Rattle.schema.specs.Machine.{says, ran}
 use Rattle.schema.specs.Table.{Within, cells}
@@ -21,7 +21,7 @@ use Rattle.schema.proofs.Laws.{number-one}
 use Rattle.schema.proofs.LineLength.{lines-length}
 use Rattle.schema.proofs.SheetClosed.{sheet-closed}
 use Rattle.walk.specs.Reply.{Reply, outcomeOf, countOf, told}
-use Rattle.writer.specs.Writer.{Writes, writerOf, SaysWriting, RepliesWriting, WriterPromise}
+use Rattle.writer.specs.Writer.{Writes, SaysWriting, RepliesWriting, WriterPromise}
 use Rattle.writer.specs.declared.Written.{Written}
 use Rattle.writer.proofs.LinesNumber.{lines-number}
 use Rattle.cells.proofs.Numbers.{cells-small}

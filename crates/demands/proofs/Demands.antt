@@ -8,12 +8,12 @@ use Rattle.grammar.specs.Refusal.{refused, accepted}
 use Rattle.grammar.specs.Sheet.{Grammar}
 use Rattle.grammar.specs.Order.{FirstHolds}
 use Rattle.schema.specs.Derivation.{Pair, _at_, Result, Derives, result}
-use Rattle.schema.specs.Handed.{handed, asked, questionOf, verdictOf}
+use Rattle.schema.specs.Handed.{handed, asked, questionOf, verdictOf, writerOf}
 use Rattle.schema.specs.Machine.{says, ran}
 use Rattle.walk.specs.Reply.{Reply, outcomeOf, told}
 use Rattle.memo.specs.Answer.{QuestionPromise}
 use Rattle.memo.specs.Verdict.{VerdictPromise}
-use Rattle.writer.specs.Writer.{writerOf, WriterPromise}
+use Rattle.writer.specs.Writer.{WriterPromise}
 use Rattle.walk.specs.declared.Answer.{Answer}
 use Rattle.memo.specs.declared.Judgement.{Judgement}
 use Rattle.writer.specs.declared.Written.{Written}

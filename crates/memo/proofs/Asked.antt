@@ -11,7 +11,8 @@ use Rattle.schema.specs.Derivation.{_at_}
 use Rattle.schema.specs.Table.{cell, cells, decided}
 use Rattle.schema.proofs.Cell.{cell-below}
 use Rattle.walk.specs.Reply.{Reply, reply}
-use Rattle.memo.specs.Answer.{AskReady, Says}
+use Rattle.memo.specs.Answer.{Says}
+use Rattle.memo.specs.Ask.{AskReady}
 use Rattle.walk.specs.Over.{OverReady, Over}
 use Rattle.walk.proofs.Cleared.{cleared, cleared-length, cleared-at, cleared-later, blank-right}
 use Rattle.walk.proofs.Decided.{decided-zero}

@@ -19,7 +19,8 @@ use Rattle.schema.proofs.Tested.{slicesOut, question-follows}
 use Rattle.rules.proofs.Admitted.{Admitted, admitted, not-admitted}
 use Rattle.schema.proofs.Handed.{handed-sheet}
 use Rattle.walk.specs.Reply.{Reply}
-use Rattle.memo.specs.Answer.{Replies, Says, AskReady}
+use Rattle.memo.specs.Answer.{Replies, Says}
+use Rattle.memo.specs.Ask.{AskReady}
 use Rattle.memo.proofs.Ready.{few-variables, ready, says-of}
 
 module _ {s input : List ℕ} {A p : ℕ} {before after : List ℕ} {r : Sheet} (admission : Admission s input A p before after r) (table work : List ℕ) where

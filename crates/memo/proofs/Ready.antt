@@ -17,7 +17,8 @@ use Rattle.schema.specs.Table.{Within, cells}
 use Rattle.grammar.proofs.Fitting.{neither-true}
 use Rattle.schema.proofs.SheetClosed.{sheet-closed}
 use Rattle.walk.specs.Reply.{Reply}
-use Rattle.memo.specs.Answer.{Says, AskReady}
+use Rattle.memo.specs.Answer.{Says}
+use Rattle.memo.specs.Ask.{AskReady}
 
 module _ (s : List ℕ) {array : List ℕ} {v : ℕ} (g : Grammar) (accepts : sheet s ≡ accepted g) (variables-are : g .variables ≡ v) (rules-are : ruleIn array ≡ g .rule) where
   pub few-variables : v ≤ 256

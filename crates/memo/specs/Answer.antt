@@ -1,15 +1,14 @@
 -- Document 01, "The table engine": the promise of a question. Assumes nothing.
 use mathlib.Core.List.{List}
 use mathlib.Core.Path.{_≡_}
-use Prim.Native.Nat.{ℕ, _≤_}
+use Prim.Native.Nat.{ℕ}
 use lib.ListN.{length, take, drop}
 use Rattle.grammar.specs.Refusal.{Checked, refused, accepted}
 use Rattle.grammar.specs.Rule.{Rule}
 use Rattle.grammar.specs.Sheet.{Grammar}
 use Rattle.schema.specs.Derivation.{Pair, _at_, Outcome, Has}
 use Rattle.schema.specs.Reached.{Named}
-use Rattle.schema.specs.Closed.{Closed}
-use Rattle.schema.specs.Table.{Within, cells, decided, blanked, Table}
+use Rattle.schema.specs.Table.{cells, decided, blanked, Table}
 use Rattle.schema.specs.Handed.{handed, questionOf}
 use Rattle.walk.specs.Reply.{Reply, reply, told}
 use Rattle.walk.specs.declared.Answer.{Answer}
@@ -39,12 +38,3 @@ Replies (accepted g) input x table table′ work work′ r = Says (g .rule) (g .
 abbrev pub QuestionPromise : List ℕ → List ℕ → ℕ → ℕ → List ℕ → List ℕ → List ℕ → List ℕ → Answer → Type 0
 QuestionPromise sheet input A p table table′ work work′ r =
     Replies (handed sheet (questionOf input (A at p) (length table) (length work))) input (A at p) table table′ work work′ (told r)
-
--- What asking is handed, once the refusals are tested.
-pub record AskReady (rule : ℕ → Rule) (input : List ℕ) (v A p : ℕ) (table work : List ℕ) : Type 0 where
-  pub few : v ≤ 256
-  pub short : length input ≤ 4096
-  pub closed : Closed v rule
-  pub within : Within v (length input) A p
-  pub room : cells v (length input) ≤ length table
-  pub work-room : cells v (length input) ≤ length work

@@ -10,11 +10,10 @@ use Rattle.grammar.specs.Sheet.{Grammar}
 use Rattle.grammar.proofs.Accepted.{grammar-in-range}
 use Rattle.grammar.proofs.Refusals.{accepted-clear}
 use Rattle.schema.specs.Derivation.{_at_}
-use Rattle.schema.specs.Handed.{callCondition, callOrder, handed, verdictOf}
+use Rattle.schema.specs.Handed.{callCondition, callOrder, handed, verdictOf, writerOf}
 use Rattle.schema.specs.Table.{Within, cells}
 use Rattle.schema.proofs.Tested.{handed-then}
 use Rattle.schema.proofs.Handed.{handed-sheet, handed-input, handed-slices}
-use Rattle.writer.specs.Writer.{writerOf}
 
 module _ (s input : List ℕ) (g : Grammar) (e : handed s (verdictOf input 1024 1024) ≡ accepted g) where
   -- The start variable at 0 is a pair.

@@ -11,7 +11,7 @@ use Rattle.columns.specs.Column.{row}
 use Rattle.grammar.specs.Refusal.{Checked, refused, accepted}
 use Rattle.grammar.specs.Sheet.{Grammar}
 use Rattle.schema.specs.Derivation.{Pair, _at_, success, failure, missing, end, Outcome, result, stopped, loop, Has}
-use Rattle.schema.specs.Handed.{handed, verdictOf}
+use Rattle.schema.specs.Handed.{handed, verdictOf, writerOf}
 use Rattle.schema.specs.Line.{linesBytes}
 use Rattle.schema.specs.Reached.{Reached, Number}
 use Rattle.schema.proofs.Handed.{handed-sheet, handed-slices}
@@ -19,7 +19,7 @@ use Rattle.schema.proofs.Laws.{has-one}
 use Rattle.schema.proofs.LineLength.{lines-length}
 use Rattle.walk.specs.Reply.{reply, outcomeOf, countOf, told}
 use Rattle.memo.specs.Verdict.{numbers, judged, Judges, VerdictPromise}
-use Rattle.writer.specs.Writer.{Lines, Writes, writerOf, SaysWriting, RepliesWriting}
+use Rattle.writer.specs.Writer.{Lines, Writes, SaysWriting, RepliesWriting}
 use Rattle.memo.specs.declared.Judgement.{Judgement}
 use Rattle.memo.proofs.Result.{count-is}
 use Rattle.output.specs.Output.{Printing, Writing, Certificate}

@@ -92,3 +92,7 @@ questionOf input x table work = record { input = input; verdict = false; pair = 
 -- The verdict: no pair, and "7, verdict only".
 abbrev pub verdictOf : List ℕ → ℕ → ℕ → Handed
 verdictOf input table work = record { input = input; verdict = true; pair = none; slices = some (table, work); output = none }
+
+-- What the writer is handed: what a question is, and the output.
+abbrev pub writerOf : List ℕ → Pair → ℕ → ℕ → ℕ → Handed
+writerOf input x table work out = record { input = input; verdict = false; pair = some x; slices = some (table, work); output = some out }

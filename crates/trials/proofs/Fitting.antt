@@ -10,13 +10,13 @@ use Rattle.grammar.specs.Refusal.{Checked, refused, accepted}
 use Rattle.grammar.specs.Sheet.{Grammar}
 use Rattle.grammar.proofs.Refusals.{refused-each}
 use Rattle.schema.specs.Derivation.{Pair, _at_, Result, success, failure, Outcome, result, Has}
-use Rattle.schema.specs.Handed.{Handed, asked, handed}
+use Rattle.schema.specs.Handed.{Handed, asked, handed, writerOf}
 use Rattle.schema.specs.Machine.{RunOutcome, says, spent, noFrame, Ran, ran}
 use Rattle.schema.specs.Table.{code}
 use Rattle.schema.proofs.Handed.{handed-input, handed-pair}
 use Rattle.schema.proofs.Small.{refusal-small, code-small}
 use Rattle.walk.specs.Reply.{outcomeOf, told}
-use Rattle.writer.specs.Writer.{writerOf, RepliesWriting, WriterPromise}
+use Rattle.writer.specs.Writer.{RepliesWriting, WriterPromise}
 use Rattle.writer.specs.declared.Written.{Written}
 use Rattle.backtrack.specs.Run.{told as ended, Comes, Runs}
 use Rattle.backtrack.specs.declared.Ending.{Ending}

@@ -15,12 +15,12 @@ use Rattle.grammar.specs.declared.sheet.Sheet.{Sheet}
 use Rattle.grammar.specs.declared.sheet.Sheet.the-variants.{Read, Refused}
 use Rattle.rules.specs.Admission.{Admission}
 use Rattle.schema.specs.Derivation.{_at_}
-use Rattle.schema.specs.Handed.{pairVariableOut, pairPositionOut, callCondition, callOrder, handed, questionOf}
+use Rattle.schema.specs.Handed.{pairVariableOut, pairPositionOut, callCondition, callOrder, handed, questionOf, writerOf}
 use Rattle.schema.specs.Table.{cells}
 use Rattle.schema.proofs.Tested.{handed-refused, handed-then, question-follows}
 use Rattle.rules.proofs.Admitted.{not-admitted}
 use Rattle.walk.specs.Reply.{Reply}
-use Rattle.writer.specs.Writer.{writerOf, SaysWriting, RepliesWriting}
+use Rattle.writer.specs.Writer.{SaysWriting, RepliesWriting}
 use Rattle.writer.specs.Writing.{AskWriteReady}
 use Rattle.memo.proofs.Questioned.{read, follows, tested-is, ask-ready}
 

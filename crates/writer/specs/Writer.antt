@@ -1,7 +1,5 @@
 -- Document 01, "Readings": the writer. Assumes nothing.
-use mathlib.Core.Bool.{false}
 use mathlib.Core.List.{List, [], _∷_, _++_}
-use mathlib.Core.Option.{some}
 use mathlib.Core.Path.{_≡_}
 use Prim.Native.Nat.{ℕ, _*_}
 use lib.ListN.{length, drop}
@@ -9,7 +7,7 @@ use Rattle.grammar.specs.Refusal.{Checked, refused, accepted}
 use Rattle.grammar.specs.Rule.{Rule}
 use Rattle.grammar.specs.Sheet.{Grammar}
 use Rattle.schema.specs.Derivation.{Pair, _at_, Result, gives, calls, act, second, Outcome, result, stopped, loop}
-use Rattle.schema.specs.Handed.{Handed, handed}
+use Rattle.schema.specs.Handed.{handed, writerOf}
 use Rattle.schema.specs.Line.{Line, lineOf, linesBytes, Stands}
 use Rattle.walk.specs.Reply.{Reply, outcomeOf, told}
 use Rattle.memo.specs.Answer.{Answers}
@@ -42,10 +40,6 @@ pub record Writes (rule : ℕ → Rule) (input : List ℕ) (x : Pair) (o : Outco
   pub ordered : Lines rule input x o lines
   pub counted : count ≡ length lines
   pub written : out′ ≡ linesBytes lines ++ drop (49 * length lines) out
-
--- What the writer is handed: what a question is, and the output.
-abbrev pub writerOf : List ℕ → Pair → ℕ → ℕ → ℕ → Handed
-writerOf input x table work out = record { input = input; verdict = false; pair = some x; slices = some (table, work); output = some out }
 
 -- "The writer asks the question as the engine does, with the same result, table and work slice."
 abbrev pub SaysWriting : (ℕ → Rule) → ℕ → List ℕ → Pair → List ℕ → List ℕ → List ℕ → List ℕ → List ℕ → List ℕ → Checked Reply → ℕ → Type 0

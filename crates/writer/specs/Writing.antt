@@ -14,7 +14,7 @@ use Rattle.schema.specs.Line.{Line, lineOf, lineBytes, linesBytes}
 use Rattle.schema.specs.Reached.{Reached}
 use Rattle.schema.specs.Table.{Within, cell, cells, held}
 use Rattle.walk.specs.Reply.{Reply, reply}
-use Rattle.memo.specs.Answer.{AskReady}
+use Rattle.memo.specs.Ask.{AskReady}
 use Rattle.cells.specs.Packed.{packed}
 use Rattle.step.specs.Codes.{Settled, resultOf}
 use Rattle.writer.specs.Writer.{Visits}
