@@ -1,18 +1,112 @@
-//! The fastest unverified variant that was found: a rule is one word, callers stand one above the other in the work slice, a called leaf is settled in
-//! place, first and second call are one straight line of code, nothing is checked, and the cells are counted in the walk.
-use crate::plain::{self, Rule};
+//! The fastest unverified variant that was found, written to win: a rule is one word, read straight from the sheet; fields and classes are looked up in
+//! tables; callers stand one above the other in the work slice, a called leaf is settled in place, first and second call are one straight line of code;
+//! no index is checked, and the cells are counted in the walk.
+use crate::plain;
 
 const OPEN: u32 = u32::MAX;
 
-fn word(rule: Rule) -> u32 {
-    match rule {
-        Rule::Absent => 0,
-        Rule::Always => 1 << 24,
-        Rule::Never => 2 << 24,
-        Rule::Byte(byte) => 3 << 24 | u32::from(byte) << 16,
-        Rule::Class(class) => 4 << 24 | u32::from(class) << 16,
-        Rule::Calls(b, c, d) => 5 << 24 | (b - 1) << 16 | (c - 1) << 8 | (d - 1),
+/// The last four of five columns for each number below 256, the first column lowest.
+static WRITTEN: [u32; 256] = written();
+
+const fn written() -> [u32; 256] {
+    let mut table = [0; 256];
+    let mut number = 0;
+    while number < 256 {
+        let (hundreds, tens, ones) = (number / 100, number / 10 % 10, number % 10);
+        let second = if number < 100 { 32 } else { 48 + hundreds };
+        let third = if number < 10 { 32 } else { 48 + tens };
+        table[number as usize] = 32 | second << 8 | third << 16 | (48 + ones) << 24;
+        number += 1;
     }
+    table
+}
+
+/// The class of each byte.
+static CLASSES: [u8; 256] = classes();
+
+const fn classes() -> [u8; 256] {
+    let mut table = [0; 256];
+    let mut byte = 0;
+    while byte < 256 {
+        table[byte] = plain::class(byte as u8);
+        byte += 1;
+    }
+    table
+}
+
+/// What a field gives that holds no number of a sheet: above them all.
+const FAULT: u32 = u32::MAX;
+
+/// The number in five columns: what the digits would be, if it is so written.
+#[inline(always)]
+unsafe fn field(columns: *const u8) -> u32 {
+    // SAFETY: five columns can be read.
+    let (first, others) = unsafe {
+        let others = columns.add(1).cast::<[u8; 4]>().read();
+        (*columns, u32::from_le_bytes(others))
+    };
+    let digits = u64::from(others & 0x0f0f_0f00);
+    let number = (digits * (100 << 24 | 10 << 16 | 1 << 8) >> 32) as u8;
+    if first == b' ' && others == WRITTEN[number as usize] {
+        return number.into();
+    }
+    if first == b' ' && others.to_le_bytes() == *b" 256" {
+        return 256;
+    }
+    FAULT
+}
+
+/// The word of a rule of V variables, or 0 where it does not fit.
+#[inline(always)]
+fn word(variables: u32, [kind, x, y, z]: [u32; 4]) -> u32 {
+    if kind == 4 {
+        let [b, c, d] = [x, y, z].map(|x| x.wrapping_sub(1));
+        let fits = b < variables && c < variables && d < variables;
+        return if fits {
+            5 << 24 | b << 16 | c << 8 | d
+        } else {
+            0
+        };
+    }
+    let fits = y == 0
+        && z == 0
+        && match kind {
+            0 | 1 => x == 0,
+            2 => x <= 255,
+            3 => x.wrapping_sub(1) < 6,
+            _ => false,
+        };
+    if fits { (kind + 1) << 24 | x << 16 } else { 0 }
+}
+
+/// The number of variables, and the words of their rules.
+fn read(text: &[u8]) -> Option<(u32, [u32; 256])> {
+    if text.is_empty() || !text.len().is_multiple_of(26) || text.len() > 257 * 26 {
+        return None;
+    }
+    // SAFETY: a line has 26 bytes.
+    let fields = |line: &[u8]| [0, 5, 10, 15, 20].map(|at| unsafe { field(line.as_ptr().add(at)) });
+    let mut lines = text.chunks_exact(26);
+    let first = lines.next()?;
+    let [variables, start, endmarker, 0, 0] = fields(first) else {
+        return None;
+    };
+    if variables.wrapping_sub(1) > 255 || start.wrapping_sub(1) >= variables || endmarker > 255 {
+        return None;
+    }
+    let (mut words, mut before, mut ends) = ([0; 256], 0, first[25] == b'\n');
+    for line in lines {
+        let [variable, kind, x, y, z] = fields(line);
+        let word = word(variables, [kind, x, y, z]);
+        if variable <= before || variable > variables || word == 0 {
+            return None;
+        }
+        ends &= line[25] == b'\n';
+        before = variable;
+        // SAFETY: the variable is among 1 to V, and V at most 256.
+        unsafe { *words.get_unchecked_mut(variable as usize - 1) = word };
+    }
+    ends.then_some((variables, words))
 }
 
 /// A cell's code, 3 and 4 for missing and end.
@@ -25,7 +119,11 @@ unsafe fn leaf(word: u32, entry: &[u8], place: u32) -> u32 {
         }
         // SAFETY: the place is below the length.
         let byte = unsafe { *entry.get_unchecked(place as usize) };
-        let seen = if kind == 4 { plain::class(byte) } else { byte };
+        let seen = if kind == 4 {
+            CLASSES[byte as usize]
+        } else {
+            byte
+        };
         return if u32::from(seen) == (word >> 16 & 255) {
             6 + place
         } else {
@@ -146,10 +244,9 @@ pub fn question(
     table: &mut [u32],
     work: &mut [u32],
 ) -> [u32; 4] {
-    let sheet = plain::read(sheet).expect("an accepted sheet");
-    let words = sheet.rules.map(word);
+    let (variables, words) = read(sheet).expect("an accepted sheet");
     let width = entry.len() + 1;
-    let size = sheet.variables as usize * width;
+    let size = variables as usize * width;
     assert!(size <= table.len() && size <= work.len());
     table[..size].fill(0);
     let asked = (asked.0 - 1, asked.1);

@@ -8,6 +8,7 @@ mod peers;
 mod plain;
 mod reading;
 mod sheets;
+mod society;
 mod timing;
 
 use import::{Pair, trials};
@@ -97,8 +98,8 @@ fn asking<'a>(name: &'static str, call: Call, question: &'a Question) -> Subject
     (name, Box::new(run))
 }
 
-/// The count of decided cells, on which all three agree.
-fn decided(question: &Question) -> f64 {
+/// The cell's code and the count of decided cells, on which all three agree.
+fn answer(question: &Question) -> (u32, f64) {
     let answers = CALLS.map(|(_, call)| {
         let mut room = Room::new(question);
         let (table, work) = room.slices();
@@ -109,11 +110,45 @@ fn decided(question: &Question) -> f64 {
         "{}",
         question.name
     );
-    answers[0][3].into()
+    (answers[0][0], answers[0][3].into())
 }
 
 fn counted(instructions: Option<f64>, units: f64) -> String {
     instructions.map_or(String::from("-"), |count| format!("{:.1}", count / units))
+}
+
+/// What the three calls take for a question: the decided cells, the nanoseconds, the instructions.
+struct Beside {
+    cells: f64,
+    times: Vec<f64>,
+    instructions: [Option<f64>; 3],
+}
+
+/// The three calls of a question, which `--calls` knows by a part.
+fn beside(question: &Question, part: &str) -> Beside {
+    let mut subjects: Vec<Subject> = CALLS
+        .iter()
+        .map(|(name, call)| asking(name, *call, question))
+        .collect();
+    Beside {
+        cells: answer(question).1,
+        times: timing::medians(&mut subjects),
+        instructions: CALLS.map(|(name, _)| timing::instructions(&format!("{part}/{name}"))),
+    }
+}
+
+/// What stands behind the times: of the plain twin, of the fastest, and the instructions for each decided cell.
+fn ratios(found: &Beside) -> String {
+    let [proved, plain, fastest] = found.instructions.map(|count| counted(count, found.cells));
+    format!(
+        "{:.2} | {:.2} | {proved} | {plain} | {fastest}",
+        found.times[0] / found.times[1],
+        found.times[0] / found.times[2],
+    )
+}
+
+fn share(part: f64, whole: f64) -> String {
+    format!("{:.0} %", 100.0 * part / whole)
 }
 
 fn question_table() {
@@ -123,26 +158,104 @@ fn question_table() {
     );
     println!("|---|---|---|---|---|---|---|---|---|---|");
     for (i, question) in questions().iter().enumerate() {
-        let cells = decided(question);
-        let mut subjects: Vec<Subject> = CALLS
-            .iter()
-            .map(|(name, call)| asking(name, *call, question))
-            .collect();
-        let times = timing::medians(&mut subjects);
-        let counts = CALLS.map(|(name, _)| timing::instructions(&format!("{i}/{name}")));
+        let found = beside(question, &i.to_string());
         println!(
-            "| {} | {}, {:.0} % | {:.2} | {:.2} | {:.2} | {:.2} | {:.2} | {} | {} | {} |",
+            "| {} | {}, {} | {:.2} | {:.2} | {:.2} | {} |",
             question.name,
             question.cells(),
-            100.0 * cells / question.cells() as f64,
-            times[0] / cells,
-            times[1] / cells,
-            times[2] / cells,
-            times[0] / times[1],
-            times[0] / times[2],
-            counted(counts[0], cells),
-            counted(counts[1], cells),
-            counted(counts[2], cells),
+            share(found.cells, question.cells() as f64),
+            found.times[0] / found.cells,
+            found.times[1] / found.cells,
+            found.times[2] / found.cells,
+            ratios(&found),
+        );
+    }
+}
+
+/// The sheets of societies, each with a short entry and a long one. All of an entry is taken.
+fn society_questions() -> [Question; 4] {
+    [
+        society::short_lines(),
+        society::long_lines(3000),
+        society::classes(50),
+        society::classes(3000),
+    ]
+}
+
+fn society_table() {
+    println!("\n## Sheets as societies write them, the sheet read in each call\n");
+    println!(
+        "| question | bytes | cells, decided | proved, ns | plain twin, ns | fastest, ns | of plain | of fastest | instructions for each decided cell: proved | plain | fastest |"
+    );
+    println!("|---|---|---|---|---|---|---|---|---|---|---|");
+    for (i, question) in society_questions().iter().enumerate() {
+        assert_eq!(answer(question).0 as usize, 5 + question.entry.len());
+        let found = beside(question, &format!("society{i}"));
+        println!(
+            "| {} | {} | {}, {:.0} ({}) | {:.0} | {:.0} | {:.0} | {} |",
+            question.name,
+            question.entry.len(),
+            question.cells(),
+            found.cells,
+            share(found.cells, question.cells() as f64),
+            found.times[0],
+            found.times[1],
+            found.times[2],
+            ratios(&found),
+        );
+    }
+}
+
+/// Sheet and blanking alone: the question about a leaf, whose walk is one step.
+fn asking_leaf<'a>(question: &'a Question) -> Subject<'a> {
+    let mut room = Room::new(question);
+    let leaf = question.leaf();
+    let run = move |calls| {
+        let (table, work) = room.slices();
+        for _ in 0..calls {
+            let mut answer = [0; 4];
+            let (sheet, entry) = (&question.sheet, &question.entry);
+            let code = trials::question(sheet, entry, leaf, 0, table, work, &mut answer);
+            assert_eq!((code, answer[3]), (0, 1));
+        }
+    };
+    ("leaf", Box::new(run))
+}
+
+/// A plain fill of the cells.
+fn filling<'a>(question: &'a Question) -> Subject<'a> {
+    let mut room = Room::new(question);
+    let run = move |calls| {
+        let (table, _) = room.slices();
+        for _ in 0..calls {
+            black_box(&mut *table).fill(0);
+        }
+    };
+    ("fill", Box::new(run))
+}
+
+fn parts_table() {
+    println!("\n## Where the time of these calls goes\n");
+    println!(
+        "| question | bytes | call, ns | sheet, ns | blanking, ns | walk, ns | a fill alone, ns |"
+    );
+    println!("|---|---|---|---|---|---|---|");
+    for question in &society_questions() {
+        let times = timing::medians(&mut [
+            asking("proved", proved, question),
+            read_subject("proved", &question.sheet),
+            asking_leaf(question),
+            filling(question),
+        ]);
+        let parts = [times[1], times[2] - times[1], times[0] - times[2]];
+        let [sheet, blanking, walk] =
+            parts.map(|part| format!("{part:.0}, {}", share(part, times[0])));
+        println!(
+            "| {} | {} | {:.0} | {sheet} | {blanking} | {walk} | {:.0} |",
+            question.name,
+            question.entry.len(),
+            times[0],
+            times[3],
         );
     }
 }
@@ -176,7 +289,7 @@ fn import_table() {
         let mut counts = None;
         for bytes in [20, 50, 80] {
             let question = sheets::register(rules, bytes);
-            let cells = decided(&question);
+            let (_, cells) = answer(&question);
             let mut subjects = vec![
                 asking("proved", proved, &question),
                 asking("plain", plain_twin, &question),
@@ -320,7 +433,7 @@ fn levels_table(peers: &peers::Peers) {
     println!("|---|---|---|---|");
     for depth in [4, 8, 12, 16, 20, 24] {
         let question = sheets::levels(depth);
-        assert_eq!(decided(&question), f64::from(2 * depth + 2));
+        assert_eq!(answer(&question).1, f64::from(2 * depth + 2));
         let times = timing::medians(&mut [asking("proved", proved, &question)]);
         println!(
             "| {depth} | {:.1} | {:.1} | {:.1} |",
@@ -414,7 +527,7 @@ fn checker_row(q: &Question, reading: &[u8]) {
     row("checker, lines", reading.len() as u32 / 49, &mut subjects);
 }
 
-/// Makes the calls of one subject, `0/proved` or `read60/plain`.
+/// Makes the calls of one subject, `0/proved`, `society0/proved` or `read60/plain`.
 fn only_calls(subject: &str, calls: usize) {
     let (part, name) = subject.split_once('/').expect("a part and a name");
     if let Some(rules) = part.strip_prefix("read") {
@@ -422,7 +535,10 @@ fn only_calls(subject: &str, calls: usize) {
         let name = if name == "proved" { "proved" } else { "plain" };
         return (read_subject(name, &question.sheet).1)(calls);
     }
-    let question = &questions()[part.parse::<usize>().expect("a number")];
+    let question = match part.strip_prefix("society") {
+        Some(number) => &society_questions()[number.parse::<usize>().expect("a number")],
+        None => &questions()[part.parse::<usize>().expect("a number")],
+    };
     let (name, call) = *CALLS.iter().find(|call| call.0 == name).expect("a call");
     (asking(name, call, question).1)(calls);
 }
@@ -436,6 +552,8 @@ fn main() {
         );
     }
     question_table();
+    society_table();
+    parts_table();
     import_table();
     growth_table();
     println!("\n## Machine, writer and checker, millions a second\n");

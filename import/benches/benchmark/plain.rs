@@ -1,5 +1,6 @@
-//! An idiomatic Rust twin of the plain algorithm, by the authors of the proved code: a rule is an enum, a caller is a link in the work slice, and a
-//! leaf takes one step to open and one to settle. Sheet reading, blanking and counting are included, as in the proved call.
+//! An idiomatic Rust twin of the plain algorithm, by the authors of the proved code and written to win: a rule is an enum, a caller is a link in the
+//! work slice, and a leaf takes one step to open and one to settle. Sheet reading and blanking are included, and cells are counted as they are opened,
+//! as in the proved call.
 
 #[derive(Clone, Copy)]
 pub enum Rule {
@@ -16,7 +17,7 @@ pub struct Sheet {
     pub rules: [Rule; 256],
 }
 
-pub fn class(byte: u8) -> u8 {
+pub const fn class(byte: u8) -> u8 {
     match byte {
         b'0'..=b'9' => 1,
         b'A'..=b'Z' => 2,
@@ -100,10 +101,11 @@ pub fn leaf(rule: Rule, entry: &[u8], place: u32) -> u32 {
     }
 }
 
-/// A table over the cells of an entry.
+/// A table over the cells of an entry, and how many were opened.
 struct Table<'a> {
     cells: &'a mut [u32],
     width: usize,
+    count: u32,
 }
 
 impl Table<'_> {
@@ -118,6 +120,11 @@ impl Table<'_> {
     fn set(&mut self, pair: (u32, u32), code: u32) {
         let index = self.index(pair);
         self.cells[index] = code;
+    }
+
+    fn open(&mut self, pair: (u32, u32)) {
+        self.count += 1;
+        self.set(pair, OPEN);
     }
 
     /// The pair that a pair calls next, and what its cell holds.
@@ -145,13 +152,13 @@ fn walk(
     work: &mut [u32],
 ) -> (u32, (u32, u32), (u32, u32)) {
     let mut top = asked;
-    table.set(top, OPEN);
+    table.open(top);
     loop {
         let value = match sheet.rules[top.0 as usize - 1] {
             Rule::Calls(b, c, d) => match table.called(top.1, (b, c, d)) {
                 (called, OPEN) => return (2, called, top),
                 (called, 0) => {
-                    table.set(called, OPEN);
+                    table.open(called);
                     work[table.index(called)] = top.0 * 8192 + top.1;
                     top = called;
                     continue;
@@ -184,7 +191,11 @@ pub fn question(
     let size = sheet.variables as usize * width;
     let cells = &mut table[..size];
     cells.fill(0);
-    let mut table = Table { cells, width };
+    let mut table = Table {
+        cells,
+        width,
+        count: 0,
+    };
     let (code, named, mut top) = walk(&sheet, entry, asked, &mut table, &mut work[..size]);
     if (2..=4).contains(&code) {
         table.set(top, code);
@@ -193,6 +204,5 @@ pub fn question(
             table.set(top, code);
         }
     }
-    let count = table.cells.iter().filter(|cell| **cell != 0).count();
-    [code, named.0, named.1, count as u32]
+    [code, named.0, named.1, table.count]
 }

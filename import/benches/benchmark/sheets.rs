@@ -6,7 +6,7 @@ fn row(numbers: [u32; 5]) -> String {
 }
 
 /// A sheet of V rules, the first one its start, with full stop as the endmarker.
-fn sheet(rules: &[[u32; 4]]) -> Vec<u8> {
+pub fn sheet(rules: &[[u32; 4]]) -> Vec<u8> {
     let mut text = row([rules.len() as u32, 1, 46, 0, 0]);
     for (rule, variable) in rules.iter().zip(1..) {
         text += &row([variable, rule[0], rule[1], rule[2], rule[3]]);
@@ -29,6 +29,13 @@ impl Question {
             .trim()
             .parse()
             .expect("a number")
+    }
+
+    /// A variable whose rule calls nothing.
+    pub fn leaf(&self) -> u32 {
+        let calls_nothing = |line: &[u8]| line[9] != b'4';
+        let mut rules = self.sheet.chunks_exact(26).skip(1);
+        1 + rules.position(calls_nothing).expect("a leaf") as u32
     }
 
     /// The cells of the table.
@@ -100,11 +107,15 @@ pub fn wide(variables: u32, n: usize) -> Question {
     }
 }
 
-/// Rules in the making: a sequence, a choice and an option as rules of kind 4.
-#[derive(Default)]
-struct Rules(Vec<[u32; 4]>);
+/// Rules in the making: a sequence, a choice, an option and a repetition as rules of kind 4.
+pub struct Rules(Vec<[u32; 4]>);
 
 impl Rules {
+    /// Number 1 is kept for the start.
+    pub fn new() -> Rules {
+        Rules(vec![[0; 4]])
+    }
+
     fn add(&mut self, rule: [u32; 4]) -> u32 {
         if let Some(at) = self.0.iter().skip(1).position(|old| *old == rule) {
             return at as u32 + 2;
@@ -121,7 +132,11 @@ impl Rules {
         self.add([1, 0, 0, 0])
     }
 
-    fn sequence(&mut self, items: &[u32]) -> u32 {
+    pub fn class(&mut self, class: u32) -> u32 {
+        self.add([3, class, 0, 0])
+    }
+
+    pub fn sequence(&mut self, items: &[u32]) -> u32 {
         let fails = self.fails();
         let mut rest = *items.last().expect("an item");
         for item in items.iter().rev().skip(1) {
@@ -130,7 +145,7 @@ impl Rules {
         rest
     }
 
-    fn choice(&mut self, items: &[u32]) -> u32 {
+    pub fn choice(&mut self, items: &[u32]) -> u32 {
         let nothing = self.nothing();
         let mut rest = *items.last().expect("an item");
         for item in items.iter().rev().skip(1) {
@@ -139,12 +154,19 @@ impl Rules {
         rest
     }
 
-    fn option(&mut self, item: u32) -> u32 {
+    pub fn option(&mut self, item: u32) -> u32 {
         let nothing = self.nothing();
         self.add([4, item, nothing, nothing])
     }
 
-    fn word(&mut self, word: &str) -> u32 {
+    /// As many as there are, or none.
+    pub fn many(&mut self, item: u32) -> u32 {
+        let nothing = self.nothing();
+        let itself = self.0.len() as u32 + 1;
+        self.add([4, item, itself, nothing])
+    }
+
+    pub fn word(&mut self, word: &str) -> u32 {
         let bytes: Vec<u32> = word
             .bytes()
             .map(|b| self.add([2, b.into(), 0, 0]))
@@ -152,13 +174,13 @@ impl Rules {
         self.sequence(&bytes)
     }
 
-    fn words(&mut self, words: &[&str]) -> u32 {
+    pub fn words(&mut self, words: &[&str]) -> u32 {
         let each: Vec<u32> = words.iter().map(|word| self.word(word)).collect();
         self.choice(&each)
     }
 
     /// The sheet that asks for a variable, which takes number 1.
-    fn sheet(mut self, start: u32) -> Vec<u8> {
+    pub fn sheet(mut self, start: u32) -> Vec<u8> {
         self.0[0] = self.0[start as usize - 1];
         sheet(&self.0)
     }
@@ -179,12 +201,12 @@ pub const MONTHS: [&str; 12] = [
     "December",
 ];
 
-const UNITS: [&str; 4] = ["year", "month", "week", "day"];
+pub const UNITS: [&str; 4] = ["year", "month", "week", "day"];
 
 /// Dates and ages, as `12 March 1843, aged 3 years 2 months.`: the grammar that peers/dates.lua and peers/dates.leg have in their own idiom.
 pub fn dates_sheet() -> Vec<u8> {
-    let mut rules = Rules(vec![[0; 4]]);
-    let digit = rules.add([3, 1, 0, 0]);
+    let mut rules = Rules::new();
+    let digit = rules.class(1);
     let blank = rules.word(" ");
     let more = rules.option(digit);
     let number = rules.sequence(&[digit, more]);
@@ -221,7 +243,7 @@ pub fn dates(count: usize) -> Vec<Vec<u8>> {
 
 /// Rules on which a recognizer without a table takes twice as long for each level: S = T "x" / T, and so on for T, and "a" at last.
 pub fn levels(depth: u32) -> Question {
-    let mut rules = Rules(vec![[0; 4]]);
+    let mut rules = Rules::new();
     let mut inner = rules.word("a");
     let x = rules.word("x");
     for _ in 0..depth {

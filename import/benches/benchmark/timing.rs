@@ -36,6 +36,9 @@ pub fn median(times: &mut [f64]) -> f64 {
     times[times.len() / 2]
 }
 
+/// Blanking by vector stores: callgrind would count the one instruction that the C library takes otherwise (`rep stosb`) once for each byte.
+const BLANKING: &str = "glibc.cpu.x86_rep_stosb_threshold=1000000000";
+
 /// The instructions of one call, by callgrind: this program under it with two counts of calls.
 pub fn instructions(subject: &str) -> Option<f64> {
     let program = std::env::current_exe().ok()?;
@@ -46,6 +49,7 @@ pub fn instructions(subject: &str) -> Option<f64> {
             .arg(format!("--callgrind-out-file={}", out.display()))
             .arg(&program)
             .args(["--calls", subject, &calls.to_string()])
+            .env("GLIBC_TUNABLES", BLANKING)
             .output()
             .ok()?;
         fs::remove_file(out).ok();
