@@ -1,4 +1,4 @@
-//! Makes the static libraries of the crates `entryreader` and `trials` with `rt`, which proves them first, and links copies of them.
+//! Makes the static libraries of the crates `entryreader` and `test_calls` with `rt`, which proves them first, and links copies of them.
 use std::env;
 use std::fs;
 use std::path::{Path, PathBuf};
@@ -7,7 +7,7 @@ use std::process::Command;
 fn main() {
     let root = PathBuf::from(env::var("CARGO_MANIFEST_DIR").expect("cargo sets it")).join("..");
     let out = PathBuf::from(env::var("OUT_DIR").expect("cargo sets it"));
-    for name in ["entryreader", "trials"] {
+    for name in ["entryreader", "test_calls"] {
         make(&root, &out, name);
         println!("cargo:rustc-link-lib=static={name}");
     }

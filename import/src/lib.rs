@@ -21,7 +21,7 @@
 #![warn(missing_docs)]
 
 mod calls;
-pub mod trials;
+pub mod test_calls;
 
 /// A variable and a place.
 #[derive(Clone, Copy, Debug, PartialEq, Eq, Hash)]

@@ -7,10 +7,11 @@ use Prim.Native.Nat.{ℕ, zero, suc, _+_, _*_, _-_, _<_, _≤_}
 use native.Mathlib.Nat.{suc-ne-zero}
 use native.Mathlib.Omega.{arith}
 use Rattle.grammar.specs.Rule.{Rule}
+use Rattle.schema.proofs.Ends.{positionOf}
 use Rattle.schema.specs.Derivation.{Pair, Result, success, failure, Derives, Outcome, result}
 use Rattle.schema.specs.Machine.{popped, step, says, spent, noFrame, Ran, ran, run, machine}
 use Rattle.backtrack.proofs.Part.{Part, goes, short, narrow}
-use Rattle.backtrack.proofs.Steps.{place, machine-run, machine-none}
+use Rattle.backtrack.proofs.Steps.{machine-run, machine-none}
 use Rattle.backtrack.proofs.Derived.{positive, takes}
 
 -- What the machine comes to on a pair that has the result r by k steps, h high: the result after 2k - 1 moves, given that many and room
@@ -33,11 +34,11 @@ module _ (rule : ℕ → Rule) (input : List ℕ) where
       → (1 ≤ k) × Answered r k h budget room (machine rule input x budget room)
   machine-answers {x} {r} {k} {h} d budget room = (positive rule input d .0, go room)
     where
-      ended : (room : ℕ) (a : Ran) → Part budget (2 * k - 1) room (h + 0) 0 a (λ left moves. run rule input left room (popped r (place x) moves []))
+      ended : (room : ℕ) (a : Ran) → Part budget (2 * k - 1) room (h + 0) 0 a (λ left moves. run rule input left room (popped r (positionOf x) moves []))
           → Answered r k h budget room a
       ended room a (goes left e fits same) =
           let z : 0 + (2 * k - 1) ≡ 2 * k - 1 = omega arith in
-          rw (same ∙ over left room (place x) (0 + (2 * k - 1)) r, z) (answered (omega arith) (omega arith))
+          rw (same ∙ over left room (positionOf x) (0 + (2 * k - 1)) r, z) (answered (omega arith) (omega arith))
       ended room a (short less same) =
           let z : 0 + budget ≡ budget = omega arith in
           rw (same, z) (out-of-moves less)

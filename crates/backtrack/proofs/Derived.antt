@@ -5,10 +5,11 @@ use Prim.Native.Nat.{ℕ, _+_, _*_, _-_, _<_, _≤_, max}
 use native.Mathlib.Omega.{arith}
 use lib.ListN.{length}
 use Rattle.grammar.specs.Rule.{Rule}
+use Rattle.schema.proofs.Ends.{positionOf}
 use Rattle.schema.specs.Derivation.{Pair, _at_, Result, gives, calls, act, second, Derives, leaf, node}
 use Rattle.schema.specs.Machine.{stage1, stage2, Frame, frame, popped, run}
 use Rattle.backtrack.proofs.Part.{Part, bind, recast}
-use Rattle.backtrack.proofs.Steps.{place, asked, leaf-popped, first-asked, second-asked, call-popped}
+use Rattle.backtrack.proofs.Steps.{asked, leaf-popped, first-asked, second-asked, call-popped}
 
 module _ (rule : ℕ → Rule) (input : List ℕ) where
   -- A derivation has at least one step, and is at least 1 high.
@@ -20,7 +21,7 @@ module _ (rule : ℕ → Rule) (input : List ℕ) where
   abbrev pub Takes : Pair → Result → ℕ → ℕ → Type 0
   Takes x r c h =
       (l room m : ℕ) (stack : List Frame) → length stack < room
-      → Part l c room (h + length stack) m (run rule input l room (asked x m stack)) (λ left moves. run rule input left room (popped r (place x) moves stack))
+      → Part l c room (h + length stack) m (run rule input l room (asked x m stack)) (λ left moves. run rule input left room (popped r (positionOf x) moves stack))
 
   takes-leaf : (x : Pair) {r : Result} → act rule input x ≡ gives r → Takes x r 1 1
   takes-leaf x e l room m stack h = recast (leaf-popped rule input l room m stack x e) refl (λ x. omega arith) (λ x. omega arith)
@@ -33,7 +34,7 @@ module _ (rule : ℕ → Rule) (input : List ℕ) where
       bind (first l₁ room (m + 1) (frame A p stage1 ∷ stack) k₁) λ l₂ k₂.
       bind (second-asked rule input l₂ room _ stack A p t e) λ l₃ k₃.
       bind (then l₃ room _ (frame A p stage2 ∷ stack) k₃) λ l₄ k₄.
-      call-popped rule input l₄ room _ stack A p (place (second C D p t)) r)
+      call-popped rule input l₄ room _ stack A p (positionOf (second C D p t)) r)
       (omega arith) (λ x. omega arith) (λ x. omega arith)
 
   -- A derivation of k steps, h high, takes 2k - 1 moves and h frames.

@@ -8,14 +8,11 @@ use lib.Dec.{leb}
 use lib.ListN.{length}
 use borrow.Author.Tests.{leb-true, leb-false}
 use Rattle.grammar.specs.Rule.{Rule}
+use Rattle.schema.proofs.Ends.{positionOf}
 use Rattle.schema.specs.Derivation.{Pair, _at_, Result, success, failure, gives, calls, act, second}
 use Rattle.schema.specs.Machine.{s, stage0, stage1, stage2, Frame, frame, State, state, movesOf, stackOf, move, popped, step, ran, spent, noFrame, run, machine}
 use Rattle.backtrack.proofs.Part.{Part, goes, short, narrow}
 use Rattle.backtrack.proofs.Unrolled.{run-last, run-full, run-on}
-
--- The position of a pair.
-abbrev pub place : Pair → ℕ
-place (A at p) = p
 
 -- A pair is asked, after m moves, over the stack.
 abbrev pub asked : Pair → ℕ → List Frame → State
@@ -48,7 +45,7 @@ module _ (rule : ℕ → Rule) (input : List ℕ) where
   machine-none (A at p) budget = refl
 
   step-leaf : (x : Pair) {r : Result} (m : ℕ) (stack : List Frame) → act rule input x ≡ gives r
-      → step rule input (asked x m stack) ≡ move (popped r (place x) (m + 1) stack)
+      → step rule input (asked x m stack) ≡ move (popped r (positionOf x) (m + 1) stack)
   unfolding step
   step-leaf (A at p) m stack e = rw e
 
@@ -88,9 +85,9 @@ module _ (rule : ℕ → Rule) (input : List ℕ) where
 
   -- The four moves for a pair over a stack: it is a leaf and is popped; its first called pair is asked; its second; it is popped.
   pub leaf-popped : (l room m : ℕ) (stack : List Frame) (x : Pair) {r : Result} → act rule input x ≡ gives r
-      → Part l 1 room (length stack) m (run rule input l room (asked x m stack)) (λ left moves. run rule input left room (popped r (place x) moves stack))
+      → Part l 1 room (length stack) m (run rule input l room (asked x m stack)) (λ left moves. run rule input left room (popped r (positionOf x) moves stack))
   leaf-popped l room m stack x {r} e =
-      one l room _ m (asked x m stack) (λ i. popped r (place x) i stack) (asked-moves x m stack) (popped-length r (place x) (m + 1) stack)
+      one l room _ m (asked x m stack) (λ i. popped r (positionOf x) i stack) (asked-moves x m stack) (popped-length r (positionOf x) (m + 1) stack)
       (step-leaf x m stack e)
 
   pub first-asked : (l room m : ℕ) (stack : List Frame) (A p : ℕ) {B C D : ℕ} → act rule input (A at p) ≡ calls B C D

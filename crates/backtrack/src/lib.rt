@@ -98,11 +98,11 @@ fn peek(rules: &[u32; 256], input: &[u8], frames: &[u32], x: Registers) -> Plan
     if stage == 0 {
         return plan_of(act_at(rules, input, variable, x.position), x);
     }
-    let place = back(x.flag, x.position, frames[top + 1]);
+    let position = back(x.flag, x.position, frames[top + 1]);
     if stage == 1 {
-        return Plan::Push(true, 2, second_of(rules, variable, x.flag), place);
+        return Plan::Push(true, 2, second_of(rules, variable, x.flag), position);
     }
-    Plan::Pop(x.flag, place)
+    Plan::Pop(x.flag, position)
 }
 
 // A frame at stage 0 above the first `depth` frames.

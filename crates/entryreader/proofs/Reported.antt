@@ -27,7 +27,7 @@ module _ (s input : List ℕ) (A p : ℕ) (table table′ work work′ : List �
       by-sheet (refused x l) e m = subst Fits (sym (m .0)) (refusal-small s _ x l e)
       by-sheet (accepted g) e m =
           let a = m .2 in
-          let k = code-small (g .rule) input A p (a .outcome) (handed-pair s _ g e (A at p) refl .place) (handed-input s _ g e) (a .has) in
+          let k = code-small (g .rule) input A p (a .outcome) (handed-pair s _ g e (A at p) refl .position) (handed-input s _ g e) (a .has) in
           subst Fits (sym (m .1)) (subst (λ (o : Outcome). code o ≤ 4101) (sym (ap outcomeOf (a .says))) k)
 
 -- One result only: the same number, the same four numbers and the same table.

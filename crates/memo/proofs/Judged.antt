@@ -62,7 +62,7 @@ module _ {s before after : List ℕ} {r : Sheet} (promise : SheetPromise s befor
       pub ask-ready : length input ≤ 4096 → c ≡ false → AskReady (ruleIn after) input (l .variables) (l .start) 0 table work
       ask-ready short h =
           let b = grammar-in-range s (read .grammar) (read .accepts) in
-          let w : Within (read .grammar .variables) (length input) (read .grammar .start) 0 = record { low = b .2; high = b .3; place = omega arith } in
+          let w : Within (read .grammar .variables) (length input) (read .grammar .start) 0 = record { low = b .2; high = b .3; position = omega arith } in
           ready s (read .grammar) (read .accepts) (read .variables-are) rules-are input table work (l .start) 0 short
           (subst (λ (A : ℕ). Within (read .grammar .variables) (length input) A 0) (read .start-is) w) (sym small ∙ h)
 

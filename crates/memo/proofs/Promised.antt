@@ -99,7 +99,7 @@ module _ (s input table work : List ℕ) where
 
   module _ (g : Grammar) (accepts : handed s (verdictOf input (length table) (length work)) ≡ accepted g) where
     start-within : Within (g .variables) (length input) (g .start) 0
-    start-within = let b = grammar-in-range s g (handed-sheet s asked g accepts) in record { low = b .2; high = b .3; place = omega arith }
+    start-within = let b = grammar-in-range s g (handed-sheet s asked g accepts) in record { low = b .2; high = b .3; position = omega arith }
 
     table-room : cells (g .variables) (length input) ≤ length table
     table-room = handed-slices s asked g accepts (length table) (length work) refl .0

@@ -25,16 +25,16 @@ numbers (Partial q count) = 5 ∷ 0 ∷ q ∷ count ∷ []
 numbers (Refused number line) = 9 ∷ number ∷ line ∷ 0 ∷ []
 
 -- "place (end, named place .. or 0)"
-abbrev pub placeOf : Outcome → ℕ → ℕ
-placeOf (result (success q)) p = q
-placeOf (result failure) p = p
-placeOf (stopped w) p = p
-placeOf loop p = p
+abbrev pub positionFor : Outcome → ℕ → ℕ
+positionFor (result (success q)) p = q
+positionFor (result failure) p = p
+positionFor (stopped w) p = p
+positionFor loop p = p
 
 -- The numbers of a reply or a refusal, on n bytes.
 abbrev pub judged : ℕ → Checked Reply → List ℕ
 judged n (refused number line) = 9 ∷ number ∷ line ∷ 0 ∷ []
-judged n (accepted (reply o (A at p) count)) = verdictCode n o ∷ A ∷ placeOf o p ∷ count ∷ []
+judged n (accepted (reply o (A at p) count)) = verdictCode n o ∷ A ∷ positionFor o p ∷ count ∷ []
 
 -- The first refusal, with both slices as they were, or the answer about the start variable at 0.
 abbrev pub Judges : Checked Grammar → List ℕ → List ℕ → List ℕ → List ℕ → List ℕ → List ℕ → Type 0

@@ -21,12 +21,12 @@ rows-apart a b m l = rw (← suc-mul a m) (mul-le-mul-right m l)
 pub cell-below : (v n : ℕ) (x : Pair) → PairWithin v n x → cell n x < cells v n
 cell-below v n (A at p) w =
     let l = rows-apart (A - 1) v (n + 1) (omega (arith, w .low, w .high)) in
-    omega (arith, w .place)
+    omega (arith, w .position)
 
 -- The pair of a pair's cell is the pair.
 pub pair-cell : (v n : ℕ) (x : Pair) → PairWithin v n x → pairOf n (cell n x) ≡ x
 pair-cell v n (A at p) w =
-    let q : p < n + 1 = omega (arith, w .place) in
+    let q : p < n + 1 = omega (arith, w .position) in
     let z : 0 < n + 1 = omega arith in
     let c = add-comm ((A - 1) * (n + 1)) p in
     let d = add-mul-div-right p (A - 1) z in
@@ -50,4 +50,4 @@ pub pair-within : (v n i : ℕ) → i < cells v n → PairWithin v n (pairOf n i
 pair-within v n i l =
     let d : i / (n + 1) < v = div-lt-iff-lt-mul {k = n + 1} {x = i} {y = v} (omega arith) .1 l in
     let m = mod-lt i {m = n + 1} (omega arith) in
-    record { low = omega arith; high = omega arith; place = omega arith }
+    record { low = omega arith; high = omega arith; position = omega arith }

@@ -35,15 +35,15 @@ calls-call (call E F G) s p B C D e = cc
 
 module _ (rule : ℕ → Rule) (s : List ℕ) (v : ℕ) (closed : Closed v rule) where
   second-within : (C D p : ℕ) (t : Result) → Variable v C → Variable v D → p ≤ length s → EndsWithin p (length s) t → PairWithin v (length s) (second C D p t)
-  second-within C D p (success q) c d l e = record { low = c .0; high = c .1; place = e .1 }
-  second-within C D p failure c d l e = record { low = d .0; high = d .1; place = l }
+  second-within C D p (success q) c d l e = record { low = c .0; high = c .1; position = e .1 }
+  second-within C D p failure c d l e = record { low = d .0; high = d .1; position = l }
 
   first-of : (x : Pair) → PairWithin v (length s) x → gts rule s .kind x ≡ theory.Kind.calls → PairWithin v (length s) (gts rule s .first x)
   unfolding gts
   first-of (A at p) w q =
       let c = kind-calls (act rule s (A at p)) q in
       let i = closed A (c .0) (c .1) (c .2) (calls-call (rule A) s p (c .0) (c .1) (c .2) (c .3)) in
-      subst (PairWithin v (length s)) (sym (first-is rule s A p (c .3))) (record { low = i .0 .0; high = i .0 .1; place = w .place })
+      subst (PairWithin v (length s)) (sym (first-is rule s A p (c .3))) (record { low = i .0 .0; high = i .0 .1; position = w .position })
 
   second-of : (x : Pair) (t : Result) → PairWithin v (length s) x → gts rule s .kind x ≡ theory.Kind.calls → Means (gts rule s) (gts rule s .first x) (value t)
       → PairWithin v (length s) (gts rule s .second x t)
@@ -53,7 +53,7 @@ module _ (rule : ℕ → Rule) (s : List ℕ) (v : ℕ) (closed : Closed v rule)
       let i = closed A (c .0) (c .1) (c .2) (calls-call (rule A) s p (c .0) (c .1) (c .2) (c .3)) in
       let d = subst (λ (x : Pair). Derives rule s x t (m .0) (m .1)) (first-is rule s A p (c .3)) (from-done rule s (m .2)) in
       subst (PairWithin v (length s)) (sym (second-is rule s A p (c .3) t))
-      (second-within (c .1) (c .2) p t (i .1) (i .2) (w .place) (derives-ends rule s (w .place) d))
+      (second-within (c .1) (c .2) p t (i .1) (i .2) (w .position) (derives-ends rule s (w .position) d))
 
   -- The cells number the pairs.
   pub numbering : Numbering (gts rule s) (cell (length s)) (pairOf (length s)) (PairWithin v (length s)) (cells v (length s))

@@ -43,9 +43,9 @@ rule-ends (class c) s p r l e = byte-ends s p r (ltb p (length s)) (eqb (classOf
 rule-ends (call B C D) s p r l e = absurd (clash (cc))
 
 -- The second pair's position, and an end beyond it, seen from the first.
-second-place : (n C D p : ℕ) (t : Result) → p ≤ n → EndsWithin p n t → (p ≤ positionOf (second C D p t)) × (positionOf (second C D p t) ≤ n)
-second-place n C D p (success q) l e = e
-second-place n C D p failure l e = (omega arith, l)
+second-position : (n C D p : ℕ) (t : Result) → p ≤ n → EndsWithin p n t → (p ≤ positionOf (second C D p t)) × (positionOf (second C D p t) ≤ n)
+second-position n C D p (success q) l e = e
+second-position n C D p failure l e = (omega arith, l)
 
 further : (p q n : ℕ) (r : Result) → p ≤ q → EndsWithin q n r → EndsWithin p n r
 further p q n (success e) l b = let m = b .0 in (omega arith, b .1)
@@ -59,5 +59,5 @@ module _ (rule : ℕ → Rule) (s : List ℕ) where
   pub derives-ends : {x : Pair} {r : Result} {k h : ℕ} → positionOf x ≤ length s → Derives rule s x r k h → EndsWithin (positionOf x) (length s) r
   derives-ends l (leaf {x} {r} e) = leaf-ends x r l e
   derives-ends l (node {A} {B} {C} {D} {p} {r = r} {t = t} e d d₂) =
-      let b = second-place (length s) C D p t l (derives-ends l d) in
+      let b = second-position (length s) C D p t l (derives-ends l d) in
       further p (positionOf (second C D p t)) (length s) r (b .0) (derives-ends (b .1) d₂)

@@ -30,7 +30,7 @@ pub record Bounds (s : List ℕ) (v : ℕ) (T W : List ℕ) (x : State) : Type 0
   pub high : x .variable ≤ 256
   pub position-small : x .position ≤ 4096
   pub top-cell : cell (length s) (topOf x) < length T
-  pub called-in : Within v (length s) (x .called) (x .place)
+  pub called-in : Within v (length s) (x .called) (x .target)
   pub called-high : x .called ≤ 256
   pub called-cell : cell (length s) (calledOf x) < length T
   pub deep : x .depth < length W
@@ -39,7 +39,7 @@ pub step-bounds : {rule : ℕ → Rule} {s : List ℕ} {v : ℕ} {T W : List ℕ
 step-bounds {rule} {s} {v} {T} {W} {x} r =
     let w = r .walkable in
     let i = r .within in
-    let j : Within v (length s) (x .called) (x .place) = called-within rule s v (w .closed) (w .few) (w .short) i (r .called) in
+    let j : Within v (length s) (x .called) (x .target) = called-within rule s v (w .closed) (w .few) (w .short) i (r .called) in
     let a = cell-below v (length s) (topOf x) i in
     let b = cell-below v (length s) (calledOf x) j in
     let few = w .few in
@@ -49,7 +49,7 @@ step-bounds {rule} {s} {v} {T} {W} {x} r =
     let m = r .work-room in
     let h₁ = i .high in
     let h₂ = j .high in
-    let p = i .place in
+    let p = i .position in
     record { low = i .low; high = omega arith; position-small = omega arith; top-cell = omega arith; called-in = j; called-high = omega arith; called-cell = omega arith; deep = omega arith }
 
 -- What going on with a result asks, over a table of the same length.
@@ -61,7 +61,7 @@ resume-ready {s = s} {x = x} r T₁ e c code =
       low = b .low;
       high = b .high;
       short = r .walkable .short;
-      place = r .within .place;
+      position = r .within .position;
       top-cell = subst (λ (j : ℕ). cell (length s) (topOf x) < j) (sym e) (b .top-cell);
       deep = let d = b .deep in omega arith;
       code-is = code;

@@ -33,7 +33,7 @@ topOf x = x .variable at x .position
 
 -- and the pair that it calls.
 abbrev pub calledOf : State → Pair
-calledOf x = x .called at x .place
+calledOf x = x .called at x .target
 
 -- What a step asks.
 pub record StepReady (rule : ℕ → Rule) (s : List ℕ) (v : ℕ) (T W : List ℕ) (x : State) : Type 0 where
@@ -91,7 +91,7 @@ pub record ResumeReady (n : ℕ) (T W : List ℕ) (x : State) (c : ℕ) : Type 0
   pub low : 1 ≤ x .variable
   pub high : x .variable ≤ 256
   pub short : n ≤ 4096
-  pub place : x .position ≤ n
+  pub position : x .position ≤ n
   pub top-cell : cell n (topOf x) < length T
   pub deep : x .depth ≤ length W
   pub code-is : Code c
@@ -114,7 +114,7 @@ pub record Descends (rule : ℕ → Rule) (s : List ℕ) (x y : State) : Type 0 
   pub D : ℕ
   pub acts : act rule s (calledOf x) ≡ calls (y .called) C D
   pub top-is : topOf y ≡ calledOf x
-  pub place-is : y .place ≡ x .place
+  pub target-is : y .target ≡ x .target
   pub first-call : y .second ≡ false
   pub depth-is : y .depth ≡ x .depth + 1
 

@@ -17,13 +17,13 @@ use rules::Act;
 use rules::act_at;
 use rules::second_of;
 
-// Where the walk stands: the latest open pair, the pair that it calls, whether that is its second call, and how many callers the work slice
-// holds.
+// Where the walk stands: the latest open pair; the pair that it calls, a variable and its position, the target; whether that is its second call;
+// and how many callers the work slice holds.
 pub struct State {
     pub variable: u32,
     pub position: u32,
     pub called: u32,
-    pub place: u32,
+    pub target: u32,
     pub second: bool,
     pub depth: usize,
 }
@@ -64,7 +64,7 @@ fn caller_of(x: State, entry: u32, depth: usize) -> State
         variable: entry / 16384,
         position: entry / 2 % 8192,
         called: x.variable,
-        place: x.position,
+        target: x.position,
         second: entry % 2 == 1,
         depth,
     }
@@ -81,7 +81,7 @@ fn to_second(rules: &Rules, x: State, first: Cell) -> State
             variable: x.variable,
             position: x.position,
             called: d,
-            place: x.position,
+            target: x.position,
             second: true,
             depth: x.depth,
         };
@@ -91,7 +91,7 @@ fn to_second(rules: &Rules, x: State, first: Cell) -> State
         variable: x.variable,
         position: x.position,
         called: c,
-        place: first.0 - Cell::SUCCESS.0,
+        target: first.0 - Cell::SUCCESS.0,
         second: true,
         depth: x.depth,
     }
@@ -99,11 +99,11 @@ fn to_second(rules: &Rules, x: State, first: Cell) -> State
 
 // Opens the called pair, and notes its caller.
 fn open_called(n: usize, table: &mut [u32], work: &mut [u32], x: State)
-    requires { ⌜ (1 ≤ x .called) × (x .called ≤ 256) × (n ≤ 4096) × (x .place ≤ n) × (cell n (calledOf x) < length (now table)) × (x .variable ≤ 256) × (x .position ≤ 4096) × (x .depth < length (now work)) ⌝ }
+    requires { ⌜ (1 ≤ x .called) × (x .called ≤ 256) × (n ≤ 4096) × (x .target ≤ n) × (cell n (calledOf x) < length (now table)) × (x .variable ≤ 256) × (x .position ≤ 4096) × (x .depth < length (now work)) ⌝ }
     ensures opens { λ _. ⌜ now (table .exit) ≡ stored (now (table .entry)) (cell n (calledOf x)) openMark ⌝ }
     ensures notes { λ _. ⌜ now (work .exit) ≡ set (now (work .entry)) (x .depth) (entry (x .second) (topOf x)) ⌝ }
 {
-    Cell::OPEN.store(table, cell_number(n, x.called, x.place));
+    Cell::OPEN.store(table, cell_number(n, x.called, x.target));
     let depth = x.depth;
     work[depth] = entry_of(x);
 }
@@ -146,35 +146,35 @@ fn advance_unsettled(
     ensures { λ r. ⌜ Steps (ruleIn (now (rules .entry))) (now (input .entry)) (now (table .entry)) (now (work .entry)) (now (table .exit)) (now (work .exit)) x r ⌝ }
 {
     let n = input.len();
-    match act_at(rules, input, x.called, x.place) {
+    match act_at(rules, input, x.called, x.target) {
         Act::Success(end) => {
             let leaf = Cell::success(end);
-            leaf.store(table, cell_number(n, x.called, x.place));
+            leaf.store(table, cell_number(n, x.called, x.target));
             resume(rules, n, table, work, x, leaf)
         }
         Act::Failure => {
             let leaf = Cell::FAILURE;
-            leaf.store(table, cell_number(n, x.called, x.place));
+            leaf.store(table, cell_number(n, x.called, x.target));
             resume(rules, n, table, work, x, leaf)
         }
         Act::Calls(b, _, _) => {
             open_called(n, table, work, x);
             Step::On(State {
                 variable: x.called,
-                position: x.place,
+                position: x.target,
                 called: b,
-                place: x.place,
+                target: x.target,
                 second: false,
                 depth: x.depth + 1,
             })
         }
         Act::Missing => {
             open_called(n, table, work, x);
-            Step::Ended(Walk::Missing(x.called, x.place, x.depth + 1))
+            Step::Ended(Walk::Missing(x.called, x.target, x.depth + 1))
         }
         Act::End => {
             open_called(n, table, work, x);
-            Step::Ended(Walk::End(x.called, x.place, x.depth + 1))
+            Step::Ended(Walk::End(x.called, x.target, x.depth + 1))
         }
     }
 }
@@ -192,7 +192,7 @@ pub fn advance(
     ensures { λ r. ⌜ Steps (ruleIn (now (rules .entry))) (now (input .entry)) (now (table .entry)) (now (work .entry)) (now (table .exit)) (now (work .exit)) x r ⌝ }
 {
     let n = input.len();
-    let found = Cell::load(table, cell_number(n, x.called, x.place));
+    let found = Cell::load(table, cell_number(n, x.called, x.target));
     if found.0 == Cell::FAILURE.0 {
         return resume(rules, n, table, work, x, Cell::FAILURE);
     }
@@ -200,7 +200,7 @@ pub fn advance(
         return advance_unsettled(rules, input, variables, table, work, x);
     }
     if found.0 == Cell::OPEN.0 {
-        let end = Walk::Loop(x.called, x.place, x.variable, x.position, x.depth);
+        let end = Walk::Loop(x.called, x.target, x.variable, x.position, x.depth);
         return Step::Ended(end);
     }
     resume(rules, n, table, work, x, found)

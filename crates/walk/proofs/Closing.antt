@@ -145,7 +145,7 @@ module _ {n v B q c depth : ℕ} {T₀ W : List ℕ} (r : CloseReady n v B q dep
                 let m : (z : Pair) → List·Memᴰ z ((C at D) ∷ k .rest) → List·Memᴰ z (g .rest) =
                 λ z i. subst (List·Memᴰ z) (sym (k .rest-is ∙ ap (λ (u : Pair). u ∷ k .rest) y)) i in
                 let w : Within v n C D = g .within-all (C at D) (List·Memᴰ.List·Memᴰ·tail (m (C at D) (List·Memᴰ.List·Memᴰ·head refl))) in
-                let e = entry-parts (k .second) C D n (r .short) (w .place) (k .name-is ∙ ap (entry (k .second)) y) in
+                let e = entry-parts (k .second) C D n (r .short) (w .position) (k .name-is ∙ ap (entry (k .second)) y) in
                 rw (e .variable, e .position) (record {
                   root = g .root;
                   rest = k .rest;

@@ -88,9 +88,9 @@ module _ (rule : ℕ → Rule) (s : List ℕ) (v : ℕ) (closed : Closed v rule)
     known (settled-before m) = record { through = g .through; called = g .called; stacked = g .stacked; held-is = m; no-more = omega arith }
     known {r} (leaf-settled {c} u e m) =
         let i = cell (length s) (calledOf y) in
-        let f = leaf-falls rule s v closed few short (g .within) (g .through) room (y .called) (y .place) (g .called) u c r m e in
+        let f = leaf-falls rule s v closed few short (g .within) (g .through) room (y .called) (y .target) (g .called) u c r m e in
         record {
-          through = leaf-through rule s v closed few short (g .within) (g .through) room (y .called) (y .place) (g .called) u c r m e;
+          through = leaf-through rule s v closed few short (g .within) (g .through) room (y .called) (y .target) (g .called) u c r m e;
           called = called-still i c (λ t h. settled-not (length s) (heldAt T i) t h u) (g .called);
           stacked = stacked-still i c (λ t h. settled-not (length s) (heldAt T i) t h u) (g .stacked);
           held-is = looked-held rule s T (calledOf y) (in-table (calledOf y) called-in) (leaf-settled u e m);
@@ -121,7 +121,7 @@ module _ (rule : ℕ → Rule) (s : List ℕ) (v : ℕ) (closed : Closed v rule)
 
     module _ {T′ W′ : List ℕ} (o : Opens s T W T′ W′ y) (work-room : N ≤ length U) where
       opened-through : Through rule s v x O T′ (cell (length s) (calledOf y) ∷ cell (length s) (topOf y) ∷ g .stack)
-      opened-through = rw (o .table-is) (open-through rule s v closed few short (g .within) (g .through) room (y .called) (y .place) (g .called) (o .new))
+      opened-through = rw (o .table-is) (open-through rule s v closed few short (g .within) (g .through) room (y .called) (y .target) (g .called) (o .new))
 
       called-cells : {M : List ℕ} → Called rule s M (y .second) (topOf y) (calledOf y)
           → Called rule s M (y .second) (pairOf (length s) (cell (length s) (topOf y))) (pairOf (length s) (cell (length s) (calledOf y)))
@@ -152,14 +152,14 @@ module _ (rule : ℕ → Rule) (s : List ℕ) (v : ℕ) (closed : Closed v rule)
       -- Its first call is next,
       pub on-open : {z : State} → Descends rule s y z → Standing rule s v x O U T′ W′ z × (toDo T′ N z < toDo T N y)
       on-open {z} h =
-          let f = open-falls rule s v closed few short (g .within) (g .through) room (y .called) (y .place) (g .called) (o .new) in
+          let f = open-falls rule s v closed few short (g .within) (g .through) room (y .called) (y .target) (g .called) (o .new) in
           let e = ap (λ (M : List ℕ). weight (view mark M) N) (o .table-is) in
           let a = to-do-le T′ N z in
           let b = to-do-ge T N y in (
             record {
               stack = cell (length s) (topOf y) ∷ g .stack;
               within = subst (PairWithin v (length s)) (sym (h .top-is)) called-in;
-              called = rw (h .first-call, h .top-is, h .place-is) (first-called (h .acts));
+              called = rw (h .first-call, h .top-is, h .target-is) (first-called (h .acts));
               through =
                   subst (λ (i : ℕ). Through rule s v x O T′ (i ∷ cell (length s) (topOf y) ∷ g .stack)) (sym (ap (cell (length s)) (h .top-is))) opened-through;
               stacked =
@@ -249,7 +249,7 @@ module _ (rule : ℕ → Rule) (s : List ℕ) (v : ℕ) (closed : Closed v rule)
               → Standing rule s v x O U T′ W′ z
           under d j d-is j-is (above {i = i} {l = l} k e called rest) t =
               let w = pair-within v (length s) i (t .inv .below i (inl refl)) in
-              let parts = entry-parts k _ _ (length s) short (w .place) (ap (λ (m : ℕ). getD W m 0) (sym d-is) ∙ e) in
+              let parts = entry-parts k _ _ (length s) short (w .position) (ap (λ (m : ℕ). getD W m 0) (sym d-is) ∙ e) in
               let top : topOf z ≡ pairOf (length s) i =
               ap (λ (A : ℕ). A at z .position) (b .variable-is ∙ parts .variable) ∙ ap (λ (p : ℕ). (i / (length s + 1) + 1) at p) (b .position-is ∙ parts .position) in
               let cell-is : cell (length s) (topOf z) ≡ i = ap (cell (length s)) top ∙ cell-pair (length s) i in
@@ -307,7 +307,7 @@ module _ (rule : ℕ → Rule) (s : List ℕ) (v : ℕ) (closed : Closed v rule)
             opens = opens;
             table =
                 rw (h .table-same) (subst (λ (u : Pair). TableEnds rule s v x O T loop u opens) (sym (h .pair-is))
-                (again-ends rule s v closed few short w (g .within) (g .through) (y .called) (y .place) (g .called) (h .opened)));
+                (again-ends rule s v closed few short w (g .within) (g .through) (y .called) (y .target) (g .called) (h .opened)));
             stops-at = subst (λ (u : Pair). (ps : List Pair) × (opens ≡ u ∷ ps)) (sym (h .caller-is)) (stops-here rule s v closed few short w (g .within) (g .through));
             settled-code = tt;
             trail = rw (h .work-same, e) (trail-pairs rule s v x w (g .through .inv .trail) (g .stacked));
@@ -335,7 +335,7 @@ module _ {rule : ℕ → Rule} {s : List ℕ} {v A p : ℕ} {T₀ W₀ : List �
       let h = w .high in
       let m = r .walkable .room in
       let b = cell-below v (length s) (A at p) w in
-      (w .low, omega arith, r .walkable .short, w .place, omega arith)
+      (w .low, omega arith, r .walkable .short, w .position, omega arith)
 
   -- The beginning: the asked pair is open, and no other, and its first call is next.
   pub stands-first : (b C D : ℕ) → act rule s (A at p) ≡ calls b C D → (x : State) → topOf x ≡ A at p → calledOf x ≡ b at p → x .second ≡ false → x .depth ≡ 0

@@ -49,13 +49,13 @@ fn walk_on(
         variable,
         position,
         called: b,
-        place: position,
+        target: position,
         second: false,
         depth: 0,
     };
     let mut count: u32 = 0;
     loop {
-        count += newly(input.len(), table, x.called, x.place);
+        count += newly(input.len(), table, x.called, x.target);
         match advance(rules, input, variables, table, work, x) {
             Step::On(next) => {
                 x = next;

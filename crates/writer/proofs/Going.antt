@@ -19,7 +19,7 @@ use Rattle.schema.proofs.Laws.{derives-one}
 use Rattle.cells.specs.Packed.{packed}
 use Rattle.step.specs.Codes.{Settled}
 use Rattle.step.proofs.Looking.{result-is}
-use Rattle.writer.specs.declared.Place.{Place}
+use Rattle.writer.specs.declared.Stand.{Stand}
 use Rattle.writer.specs.declared.Step.the-variants as step
 use Rattle.writer.specs.Writer.{Unwritten, Visits, passed, leaf, node}
 use Rattle.writer.specs.Writing.{numberOf, link, noLink, Lower, to-first, to-second, Own, of-leaf, of-calls, pairAt, StepReady, Descends, Lays, Returns, Steps, WriteReady, WriteEnds}
@@ -164,7 +164,7 @@ module _ {rule : ℕ → Rule} {s : List ℕ} {v A p : ℕ} {T U out₀ : List �
 
   -- ---- The steps.
 
-  module _ {W out : List ℕ} {y : Place} (g : Going rule s v (A at p) U out₀ W out (pairAt y) (y .lines)) where
+  module _ {W out : List ℕ} {y : Stand} (g : Going rule s v (A at p) U out₀ W out (pairAt y) (y .lines)) where
     -- What a step asks.
     pub may-step : StepReady rule s v T W out y
     may-step =
@@ -189,7 +189,7 @@ module _ {rule : ℕ → Rule} {s : List ℕ} {v A p : ℕ} {T U out₀ : List �
 
     module _ {W′ out′ : List ℕ} where
       -- Down to a called pair.
-      pub goes-down : {z : Place} → Descends rule s T W out W′ out′ y z
+      pub goes-down : {z : Stand} → Descends rule s T W out W′ out′ y z
           → Going rule s v (A at p) U out₀ W′ out′ (pairAt z) (z .lines) × (toDo W′ (cells v (length s)) < toDo W (cells v (length s)))
       goes-down {z} d =
           let n = length s in
@@ -294,7 +294,7 @@ module _ {rule : ℕ → Rule} {s : List ℕ} {v A p : ℕ} {T U out₀ : List �
             )
 
         -- Back to the caller.
-        pub goes-back : {z : Place} → Returns s W y z
+        pub goes-back : {z : Stand} → Returns s W y z
             → Going rule s v (A at p) U out₀ W′ out′ (pairAt z) (z .lines) × (toDo W′ (cells v (length s)) < toDo W (cells v (length s)))
         goes-back {z} b =
             let k = resumes (g .callers) refl (g .chain) (b .linked) next-after next-noted (g .left) in
@@ -323,7 +323,7 @@ module _ {rule : ℕ → Rule} {s : List ℕ} {v A p : ℕ} {T U out₀ : List �
         }
 
     -- A step that goes on, and one that ends.
-    pub goes-on : {W′ out′ : List ℕ} (z : Place) → Steps rule s T W out W′ out′ y (step.On z)
+    pub goes-on : {W′ out′ : List ℕ} (z : Stand) → Steps rule s T W out W′ out′ y (step.On z)
         → Going rule s v (A at p) U out₀ W′ out′ (pairAt z) (z .lines) × (toDo W′ (cells v (length s)) < toDo W (cells v (length s)))
     goes-on z h = elim h [ inl d ↦ goes-down d | inr b ↦ goes-back (b .0) (b .1) ]
 

@@ -79,7 +79,7 @@ settled-at : {rule : ℕ → Rule} {s : List ℕ} (T : List ℕ) (v : ℕ) (y : 
     → Settled (length s) (held (length s) T y) t
 settled-at {rule} {s} T v (A at p) t w h d = record {
   code-is = h .2 ∙ ap code (has-one rule s (A at p) (h .0) (result t) (h .1) d);
-  ends = ends-in p (length s) t (derives-ends rule s {x = A at p} (w .place) (d .2));
+  ends = ends-in p (length s) t (derives-ends rule s {x = A at p} (w .position) (d .2));
 }
 
 -- ---- The question, and its lines.

@@ -132,7 +132,7 @@ module _ {rule : ℕ → Rule} {s : List ℕ} {x : Pair} {W : List ℕ} where
 
 -- The pair of a link.
 pub link-pair : (v n m : ℕ) (z : Pair) → n ≤ 4096 → PairWithin v n z → m ≡ link z → (m / 16384) at (m / 2 % 8192) ≡ z
-link-pair v n m (A at p) l w e = let h = w .place in ap₂ _at_ (omega arith) (omega arith)
+link-pair v n m (A at p) l w e = let h = w .position in ap₂ _at_ (omega arith) (omega arith)
 
 -- ---- The lines.
 

@@ -23,7 +23,7 @@ use Rattle.walk.proofs.Marks.{code-of}
 use Rattle.cells.proofs.Numbers.{cells-small}
 use Rattle.step.proofs.Within.{called-within}
 use Rattle.writer.specs.Writing.{numberOf, CallsReady, TurnsSecond, TurnsCalls, Lower, to-first, to-second, of-calls, Turns, TurnReady, StepReady, pairAt}
-use Rattle.writer.specs.declared.Place.{Place}
+use Rattle.writer.specs.declared.Stand.{Stand}
 use Rattle.writer.specs.declared.Turn.{Turn}
 use Rattle.writer.specs.declared.Turn.the-variants as turn
 
@@ -39,7 +39,7 @@ not-calls (code.Calls E F G) k B C D e = elim k [ inl h ↦ omega arith | inr m 
 pub cell-in : (v n : ℕ) (L : List ℕ) (X q : ℕ) → v ≤ 256 → n ≤ 4096 → cells v n ≤ length L → Variable v X → q ≤ n
     → (1 ≤ X) × (X ≤ 256) × (n ≤ 4096) × (q ≤ n) × (cell n (X at q) < length L)
 cell-in v n L X q few short room i l =
-    let below = cell-below v n (X at q) (record { low = i .0; high = i .1; place = l }) in
+    let below = cell-below v n (X at q) (record { low = i .0; high = i .1; position = l }) in
     let h = i .1 in
     (i .0, omega arith, short, l, omega arith)
 
@@ -94,7 +94,7 @@ module _ {rule : ℕ → Rule} {s : List ℕ} {v A p : ℕ} {T W : List ℕ} (q 
           short = q .short;
           room = q .room;
           work-room = q .work-room;
-          position-in = q .within .place;
+          position-in = q .within .position;
           b-in = k .0;
           c-in = k .1;
           d-in = k .2;
@@ -122,22 +122,22 @@ pub lower-in : {rule : ℕ → Rule} {s : List ℕ} {v : ℕ} {T W : List ℕ} {
 lower-in {rule} {s} {v} {T} few short closed w (to-first e b) = called-within rule s v closed few short {T = T} w (first-called e)
 lower-in {rule} {s} {v} {T} few short closed w (to-second e m b c) = called-within rule s v closed few short {T = T} w (second-called e m)
 
-module _ {rule : ℕ → Rule} {s : List ℕ} {v : ℕ} {T W out : List ℕ} {x : Place} (q : StepReady rule s v T W out x) where
+module _ {rule : ℕ → Rule} {s : List ℕ} {v : ℕ} {T W out : List ℕ} {x : Stand} (q : StepReady rule s v T W out x) where
   -- What linking it asks.
   pub link-ready : {b u : ℕ} → Lower rule s T W (pairAt x) (b at u)
       → (1 ≤ b) × (b ≤ 256) × (length s ≤ 4096) × (u ≤ length s) × (cell (length s) (b at u) < length W) × (x .variable ≤ 256) × (x .position ≤ 4096)
   link-ready {b} {u} l =
       let t = q .turns in
       let i = lower-in (t .few) (t .short) (t .closed) (t .within) l in
-      let k = cell-in v (length s) W b u (t .few) (t .short) (t .work-room) (i .low, i .high) (i .place) in
+      let k = cell-in v (length s) W b u (t .few) (t .short) (t .work-room) (i .low, i .high) (i .position) in
       let h = t .within .high in
-      let p = t .within .place in
+      let p = t .within .position in
       let f = t .few in
       let g = t .short in
       (k .0, k .1, k .2, k .3, k .4, omega arith, omega arith)
 
   here : (1 ≤ x .variable) × (x .variable ≤ 256) × (length s ≤ 4096) × (x .position ≤ length s) × (cell (length s) (pairAt x) < length W)
-  here = let t = q .turns in let i = t .within in cell-in v (length s) W (x .variable) (x .position) (t .few) (t .short) (t .work-room) (i .low, i .high) (i .place)
+  here = let t = q .turns in let i = t .within in cell-in v (length s) W (x .variable) (x .position) (t .few) (t .short) (t .work-room) (i .low, i .high) (i .position)
 
   -- There is room for one line more,
   pub lines-small : x .lines < 1048832

@@ -18,7 +18,7 @@ use Rattle.memo.specs.Ask.{AskReady}
 use Rattle.cells.specs.Packed.{packed}
 use Rattle.step.specs.Codes.{Settled, resultOf}
 use Rattle.writer.specs.Writer.{Visits}
-use Rattle.writer.specs.declared.Place.{Place}
+use Rattle.writer.specs.declared.Stand.{Stand}
 use Rattle.writer.specs.declared.Turn.{Turn}
 use Rattle.writer.specs.declared.Turn.the-variants as turn
 use Rattle.writer.specs.declared.Step.{Step}
@@ -94,24 +94,24 @@ pub record TurnReady (rule : ℕ → Rule) (s : List ℕ) (v A p : ℕ) (T W : L
 -- ---- A step.
 
 -- The pair of a place.
-abbrev pub pairAt : Place → Pair
+abbrev pub pairAt : Stand → Pair
 pairAt x = x .variable at x .position
 
 -- What a step asks: room for a line more.
-pub record StepReady (rule : ℕ → Rule) (s : List ℕ) (v : ℕ) (T W out : List ℕ) (x : Place) : Type 0 where
+pub record StepReady (rule : ℕ → Rule) (s : List ℕ) (v : ℕ) (T W out : List ℕ) (x : Stand) : Type 0 where
   pub turns : TurnReady rule s v (x .variable) (x .position) T W
   pub few-lines : x .lines < cells v (length s)
   pub out-room : 49 * cells v (length s) ≤ length out
 
 -- A called pair is next, linked to its caller.
-pub record Descends (rule : ℕ → Rule) (s T W out W′ out′ : List ℕ) (x y : Place) : Type 0 where
+pub record Descends (rule : ℕ → Rule) (s T W out W′ out′ : List ℕ) (x y : Stand) : Type 0 where
   pub lower : Lower rule s T W (pairAt x) (pairAt y)
   pub work-is : W′ ≡ set W (cell (length s) (pairAt y)) (link (pairAt x))
   pub out-same : out′ ≡ out
   pub lines-same : y .lines ≡ x .lines
 
 -- The line of the pair is laid down after those already written, and its number noted.
-pub record Lays (rule : ℕ → Rule) (s T W out W′ out′ : List ℕ) (x : Place) : Type 0 where
+pub record Lays (rule : ℕ → Rule) (s T W out W′ out′ : List ℕ) (x : Stand) : Type 0 where
   pub first : ℕ
   pub second : ℕ
   pub own : Own rule s T W (pairAt x) first second
@@ -120,14 +120,14 @@ pub record Lays (rule : ℕ → Rule) (s T W out W′ out′ : List ℕ) (x : Pl
   pub work-is : W′ ≡ set W (cell (length s) (pairAt x)) (2 * (x .lines + 1))
 
 -- The pair of its link is next.
-pub record Returns (s W : List ℕ) (x y : Place) : Type 0 where
+pub record Returns (s W : List ℕ) (x y : Stand) : Type 0 where
   pub linked : numberOf (length s) W (pairAt x) ≢ noLink
   pub variable-is : y .variable ≡ numberOf (length s) W (pairAt x) / 16384
   pub position-is : y .position ≡ numberOf (length s) W (pairAt x) / 2 % 8192
   pub lines-are : y .lines ≡ x .lines + 1
 
 -- One step from x.
-abbrev pub Steps : (ℕ → Rule) → List ℕ → List ℕ → List ℕ → List ℕ → List ℕ → List ℕ → Place → Step → Type 0
+abbrev pub Steps : (ℕ → Rule) → List ℕ → List ℕ → List ℕ → List ℕ → List ℕ → List ℕ → Stand → Step → Type 0
 Steps rule s T W out W′ out′ x (step.On y) = Descends rule s T W out W′ out′ x y ⊎ (Lays rule s T W out W′ out′ x × Returns s W x y)
 Steps rule s T W out W′ out′ x (step.Ended count) =
     Lays rule s T W out W′ out′ x × (numberOf (length s) W (pairAt x) ≡ noLink) × (count ≡ x .lines + 1)

@@ -35,7 +35,7 @@ enum Turn {
 }
 
 // Where the writer stands: at a pair, with so many lines written.
-struct Place {
+struct Stand {
     variable: u32,
     position: u32,
     lines: u32,
@@ -43,7 +43,7 @@ struct Place {
 
 // What a step comes to: the next place, or the count of lines at the end.
 enum Step {
-    On(Place),
+    On(Stand),
     Ended(u32),
 }
 
@@ -122,7 +122,7 @@ fn result_line(out: &mut [u8], variable: u32, position: u32, cell: Cell, first: 
 }
 
 // Lays the line of a pair down after those already written, through a part of the output.
-fn lay_line(n: usize, table: &[u32], out: &mut [u8], x: Place, first: u32, second: u32)
+fn lay_line(n: usize, table: &[u32], out: &mut [u8], x: Stand, first: u32, second: u32)
     requires { ⌜ (1 ≤ x .variable) × (x .variable ≤ 256) × (n ≤ 4096) × (x .position ≤ n) × (cell n (x .variable at x .position) < length (now table)) × Code (held n (now table) (x .variable at x .position)) × (49 * x .lines + 49 ≤ length (now out)) ⌝ }
     ensures { λ _. ⌜ now (out .exit) ≡ take (49 * x .lines) (now (out .entry)) ++ (lineBytes (lineOf (x .variable at x .position) (resultOf (held n (now (table .entry)) (x .variable at x .position))) first second) ++ drop (49 * x .lines + 49) (now (out .entry))) ⌝ }
 {
@@ -139,7 +139,7 @@ fn lay_line(n: usize, table: &[u32], out: &mut [u8], x: Place, first: u32, secon
 }
 
 // Links a called pair to its caller.
-fn link_down(n: usize, work: &mut [u32], x: Place, variable: u32, position: u32)
+fn link_down(n: usize, work: &mut [u32], x: Stand, variable: u32, position: u32)
     requires { ⌜ (1 ≤ variable) × (variable ≤ 256) × (n ≤ 4096) × (position ≤ n) × (cell n (variable at position) < length (now work)) × (x .variable ≤ 256) × (x .position ≤ 4096) ⌝ }
     ensures { λ _. ⌜ now (work .exit) ≡ set (now (work .entry)) (cell n (variable at position)) (link (x .variable at x .position)) ⌝ }
 {
@@ -148,7 +148,7 @@ fn link_down(n: usize, work: &mut [u32], x: Place, variable: u32, position: u32)
 }
 
 // Notes the number of a pair's line, and hands back the link that stood there.
-fn note_line(n: usize, work: &mut [u32], x: Place) -> u32
+fn note_line(n: usize, work: &mut [u32], x: Stand) -> u32
     requires { ⌜ (1 ≤ x .variable) × (x .variable ≤ 256) × (n ≤ 4096) × (x .position ≤ n) × (cell n (x .variable at x .position) < length (now work)) × (x .lines < 1048832) ⌝ }
     ensures stores { λ _. ⌜ now (work .exit) ≡ set (now (work .entry)) (cell n (x .variable at x .position)) (2 * (x .lines + 1)) ⌝ }
     ensures returns { λ r. ⌜ r ≡ numberOf n (now (work .entry)) (x .variable at x .position) ⌝ }
@@ -167,7 +167,7 @@ fn advance(
     table: &[u32],
     work: &mut [u32],
     out: &mut [u8],
-    x: Place,
+    x: Stand,
 ) -> Step
     requires { ⌜ StepReady (ruleIn (now rules)) (now input) variables (now table) (now work) (now out) x ⌝ }
     ensures { λ r. ⌜ Steps (ruleIn (now (rules .entry))) (now (input .entry)) (now (table .entry)) (now (work .entry)) (now (out .entry)) (now (work .exit)) (now (out .exit)) x r ⌝ }
@@ -176,7 +176,7 @@ fn advance(
     match turn_at(rules, input, variables, table, work, x.variable, x.position) {
         Turn::Down(b, q) => {
             link_down(n, work, x, b, q);
-            Step::On(Place {
+            Step::On(Stand {
                 variable: b,
                 position: q,
                 lines: x.lines,
@@ -188,7 +188,7 @@ fn advance(
             if caller == 1 {
                 return Step::Ended(x.lines + 1);
             }
-            Step::On(Place {
+            Step::On(Stand {
                 variable: caller / 16384,
                 position: caller / 2 % 8192,
                 lines: x.lines + 1,
@@ -211,7 +211,7 @@ fn write_from(
     requires { ⌜ WriteReady (ruleIn (now rules)) (now input) variables variable position (now table) (now work) (now out) ⌝ }
     ensures { λ r. ⌜ WriteEnds (ruleIn (now (rules .entry))) (now (input .entry)) variables (variable at position) (now (work .entry)) (now (work .exit)) (now (out .entry)) (now (out .exit)) r ⌝ }
 {
-    let mut x = Place {
+    let mut x = Stand {
         variable,
         position,
         lines: 0,

@@ -11,7 +11,7 @@ mod sheets;
 mod society;
 mod timing;
 
-use import::{Pair, trials};
+use import::{Pair, test_calls};
 use sheets::Question;
 use std::hint::black_box;
 use timing::Subject;
@@ -59,7 +59,7 @@ type Call = fn(&[u8], &[u8], &mut [u32], &mut [u32]) -> [u32; 4];
 
 fn proved(sheet: &[u8], entry: &[u8], table: &mut [u32], work: &mut [u32]) -> [u32; 4] {
     let mut answer = [0; 4];
-    let code = trials::question(sheet, entry, 1, 0, table, work, &mut answer);
+    let code = test_calls::question(sheet, entry, 1, 0, table, work, &mut answer);
     assert_eq!(code, 0);
     answer
 }
@@ -215,7 +215,7 @@ fn asking_leaf<'a>(question: &'a Question) -> Subject<'a> {
         for _ in 0..calls {
             let mut answer = [0; 4];
             let (sheet, entry) = (&question.sheet, &question.entry);
-            let code = trials::question(sheet, entry, leaf, 0, table, work, &mut answer);
+            let code = test_calls::question(sheet, entry, leaf, 0, table, work, &mut answer);
             assert_eq!((code, answer[3]), (0, 1));
         }
     };
@@ -262,7 +262,7 @@ fn parts_table() {
 
 /// Sheet reading alone: a place beyond the entry is refused once the sheet is read.
 fn read_proved(sheet: &[u8]) {
-    let code = trials::question(sheet, b"", 1, 1, &mut [], &mut [], &mut [0; 4]);
+    let code = test_calls::question(sheet, b"", 1, 1, &mut [], &mut [], &mut [0; 4]);
     assert_eq!(code, 109);
 }
 
@@ -459,7 +459,7 @@ fn machine_row() {
     let q = sheets::letters(4000);
     let run = |frames: &mut [u32]| {
         let mut answer = [0; 3];
-        trials::run(&q.sheet, &q.entry, PAIR, frames, u32::MAX, &mut answer);
+        test_calls::run(&q.sheet, &q.entry, PAIR, frames, u32::MAX, &mut answer);
         answer
     };
     let twin = |frames: &mut [u32]| machine::run(&q.sheet, &q.entry, ASKED, frames, u32::MAX);
@@ -491,7 +491,7 @@ fn writer_row(q: &Question) -> Vec<u8> {
     let mut other = output.clone();
     let mut write = |output: &mut [u8]| {
         let mut answer = [0; 5];
-        trials::write(&q.sheet, &q.entry, PAIR, table, work, output, &mut answer);
+        test_calls::write(&q.sheet, &q.entry, PAIR, table, work, output, &mut answer);
         answer[4]
     };
     let mut twin = |output: &mut [u8]| {
@@ -515,7 +515,7 @@ fn writer_row(q: &Question) -> Vec<u8> {
 fn checker_row(q: &Question, reading: &[u8]) {
     let check = || {
         let mut claimed = [0; 2];
-        let code = trials::check(&q.sheet, &q.entry, PAIR, reading, &mut claimed);
+        let code = test_calls::check(&q.sheet, &q.entry, PAIR, reading, &mut claimed);
         (code == 0).then_some(claimed[0])
     };
     let twin = || reading::check(&q.sheet, &q.entry, ASKED, reading);

@@ -2,7 +2,7 @@
 use crate::lent::Lent;
 use crate::questions::{self, Case, Random};
 use crate::recognizer::{self, Answered, Ending, Outcome, Ran, Size, Written, bytes, code};
-use import::{Answer, Pair, Refusal, Verdict, trials};
+use import::{Answer, Pair, Refusal, Verdict, test_calls};
 use std::collections::{BTreeMap, BTreeSet};
 
 const OUTCOMES: &[&str] = &["success", "failure", "loop", "missing", "end"];
@@ -177,8 +177,8 @@ impl Room {
 fn ran(ran: Ran) -> ([u32; 3], String) {
     let (code, end, what) = match ran.ending {
         Ending::Outcome(found) => (code(found), end(found), name(found)),
-        Ending::Spent => (trials::SPENT, 0, "spent".to_string()),
-        Ending::NoFrame => (trials::NO_FRAME, 0, "no frame".to_string()),
+        Ending::Spent => (test_calls::SPENT, 0, "spent".to_string()),
+        Ending::NoFrame => (test_calls::NO_FRAME, 0, "no frame".to_string()),
     };
     ([code, end, ran.moves], what)
 }
@@ -204,7 +204,7 @@ impl Comparison {
     pub fn question(&mut self, case: &Case, table: usize, work: usize) {
         let mut handed = Handed::new(&mut self.random, case);
         let mut room = Room::new(&mut self.random, [table, work, 0], 4);
-        let returned = trials::question(
+        let returned = test_calls::question(
             handed.sheet.slice(),
             handed.entry.slice(),
             case.asked.variable,
@@ -250,7 +250,7 @@ impl Comparison {
         let mut handed = Handed::new(&mut self.random, case);
         let mut lent = Lent::any(&mut self.random, frames);
         let mut answer = Lent::any(&mut self.random, 3);
-        let returned = trials::run(
+        let returned = test_calls::run(
             handed.sheet.slice(),
             handed.entry.slice(),
             case.asked,
@@ -280,7 +280,7 @@ impl Comparison {
     pub fn write(&mut self, case: &Case, table: usize, work: usize, output: usize) {
         let mut handed = Handed::new(&mut self.random, case);
         let mut room = Room::new(&mut self.random, [table, work, output], 5);
-        let returned = trials::write(
+        let returned = test_calls::write(
             handed.sheet.slice(),
             handed.entry.slice(),
             case.asked,
@@ -310,7 +310,7 @@ impl Comparison {
         let mut handed = Handed::new(&mut self.random, case);
         let mut lent = Lent::of(&mut self.random, reading);
         let mut answer = Lent::any(&mut self.random, 2);
-        let returned = trials::check(
+        let returned = test_calls::check(
             handed.sheet.slice(),
             handed.entry.slice(),
             case.asked,

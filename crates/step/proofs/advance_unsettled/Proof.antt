@@ -31,7 +31,7 @@ success-requires c κs =
     let r = c .before .before .before .before .before .before .before .pre .0 in
     let b = step-bounds r in
     let e = sym (c .before .before .before .act-at .ensures) ∙ ap told (c .before .end .given .1) in
-    let q = leaf-end (ruleIn (a .rules .now)) (a .input .now) (a .x .called) (a .x .place) _ (b .called-in .place) e in
+    let q = leaf-end (ruleIn (a .rules .now)) (a .input .now) (a .x .called) (a .x .target) _ (b .called-in .position) e in
     let w = r .walkable .short in
     omega arith
 
@@ -39,7 +39,7 @@ cell-number-requires : tie.Need-cell-number-requires
 cell-number-requires c κs =
     let r = c .before .before .before .before .before .before .before .before .before .pre .0 in
     let b = step-bounds r in
-    (b .called-in .low, b .called-high, r .walkable .short, b .called-in .place)
+    (b .called-in .low, b .called-high, r .walkable .short, b .called-in .position)
 
 store-requires : tie.Need-store-requires
 store-requires c κs =
@@ -56,7 +56,7 @@ cell-number-requires-2 : tie.Need-cell-number-requires-2
 cell-number-requires-2 c κs =
     let r = c .before .before .before .before .before .before .before .pre .0 in
     let b = step-bounds r in
-    (b .called-in .low, b .called-high, r .walkable .short, b .called-in .place)
+    (b .called-in .low, b .called-high, r .walkable .short, b .called-in .position)
 
 store-requires-2 : tie.Need-store-requires-2
 store-requires-2 c κs =
@@ -73,7 +73,7 @@ open-called-requires : tie.Need-open-called-requires
 open-called-requires c κs =
     let r = c .before .before .before .before .before .before .before .before .before .pre .0 in
     let b = step-bounds r in
-    (b .called-in .low, b .called-high, r .walkable .short, b .called-in .place, b .called-cell, b .high, b .position-small, b .deep)
+    (b .called-in .low, b .called-high, r .walkable .short, b .called-in .position, b .called-cell, b .high, b .position-small, b .deep)
 
 add-t35 : tie.Need-add-t35
 add-t35 c = search needs
@@ -85,7 +85,7 @@ open-called-requires-2 : tie.Need-open-called-requires-2
 open-called-requires-2 c κs =
     let r = c .before .before .before .before .before .before .before .before .pre .0 in
     let b = step-bounds r in
-    (b .called-in .low, b .called-high, r .walkable .short, b .called-in .place, b .called-cell, b .high, b .position-small, b .deep)
+    (b .called-in .low, b .called-high, r .walkable .short, b .called-in .position, b .called-cell, b .high, b .position-small, b .deep)
 
 add-t42 : tie.Need-add-t42
 add-t42 c = search needs
@@ -97,7 +97,7 @@ open-called-requires-3 : tie.Need-open-called-requires-3
 open-called-requires-3 c κs =
     let r = c .before .before .before .before .before .before .before .before .pre .0 in
     let b = step-bounds r in
-    (b .called-in .low, b .called-high, r .walkable .short, b .called-in .place, b .called-cell, b .high, b .position-small, b .deep)
+    (b .called-in .low, b .called-high, r .walkable .short, b .called-in .position, b .called-cell, b .high, b .position-small, b .deep)
 
 add-t49 : tie.Need-add-t49
 add-t49 c = search needs
@@ -114,7 +114,7 @@ returns c =
     let r = c .before .before .before .before .before .before .before .before .before .before .before .before .before .before .before .before .before .before .pre .0 in
     let b = step-bounds r in
     let e = sym (c .before .before .before .before .before .before .before .before .before .before .before .before .before .before .act-at .ensures) ∙ ap told (c .before .before .before .before .before .before .before .before .before .before .before .before .end .given .1) in
-    let q = leaf-end (ruleIn (a .rules .now)) (a .input .now) (a .x .called) (a .x .place) _ (b .called-in .place) e in
+    let q = leaf-end (ruleIn (a .rules .now)) (a .input .now) (a .x .called) (a .x .target) _ (b .called-in .position) e in
     let m : Settled (length (a .input .now)) (c .before .before .before .before .before .before .before .before .before .before .success .result .0) (success (c .before .before .before .before .before .before .before .before .before .before .before .before .end .given .0 .0)) = record { code-is = c .before .before .before .before .before .before .before .before .before .before .success .ensures; ends = q } in
     let t = c .before .before .before .before .before .before .before .store .ensures ∙ ap (λ (i : ℕ). stored (a .table .now) i (c .before .before .before .before .before .before .before .before .before .before .success .result .0)) (c .before .before .before .before .before .before .before .before .cell-number .ensures) in
     steps-resume (ruleIn (a .rules .now)) (a .input .now) (a .table .now) (a .work .now) (a .x) (c .before .before .before .before .before .before .before .before .before .before .success .result) {r = success (c .before .before .before .before .before .before .before .before .before .before .before .before .end .given .0 .0)} m (rw t (leaf-settled (c .before .before .before .before .before .before .before .before .before .before .before .before .before .before .before .before .before .before .pre .1) e m)) (r .called) (b .called-cell) (c .before .before .resume .result) (c .before .before .resume .ensures)
@@ -144,7 +144,7 @@ same-length-6 c = search needs
 returns-3 : tie.Need-returns-3
 returns-3 c =
     let a = c .before .before .before .before .before .before .before .before .before .before .before .before .before .before .before .args in
-    inr (inr (opens-called (ruleIn (a .rules .now)) (a .input .now) (a .x) (c .before .before .before .before .before .before .before .before .before .before .before .before .before .before .before .pre .1) (c .before .before .before .before .before .open-called .ensures .0) (c .before .before .before .before .before .open-called .ensures .1), record { C = _; D = _; acts = sym (c .before .before .before .before .before .before .before .before .before .before .before .act-at .ensures) ∙ ap told (c .before .before .before .before .before .before .before .before .before .b .given .1); top-is = refl; place-is = refl; first-call = refl; depth-is = refl }))
+    inr (inr (opens-called (ruleIn (a .rules .now)) (a .input .now) (a .x) (c .before .before .before .before .before .before .before .before .before .before .before .before .before .before .before .pre .1) (c .before .before .before .before .before .open-called .ensures .0) (c .before .before .before .before .before .open-called .ensures .1), record { C = _; D = _; acts = sym (c .before .before .before .before .before .before .before .before .before .before .before .act-at .ensures) ∙ ap told (c .before .before .before .before .before .before .before .before .before .b .given .1); top-is = refl; target-is = refl; first-call = refl; depth-is = refl }))
 
 same-length-7 : tie.Need-same-length-7
 same-length-7 c = search needs

@@ -31,7 +31,7 @@ success-requires c κs =
     let a = c .before .before .before .before .before .before .before .args in
     let r = c .before .before .before .before .before .before .before .pre in
     let e = sym (c .before .before .before .act-at .ensures) ∙ ap told (c .before .end .given .1) in
-    let q = leaf-end (ruleIn (a .rules .now)) (a .input .now) (a .variable) (a .position) _ (r .within .place) e in
+    let q = leaf-end (ruleIn (a .rules .now)) (a .input .now) (a .variable) (a .position) _ (r .within .position) e in
     let w = r .walkable .short in
     omega arith
 
@@ -67,7 +67,7 @@ returns-2 c =
     let a = c .before .before .before .before .before .before .before .before .before .before .before .before .args in
     let r = c .before .before .before .before .before .before .before .before .before .before .before .before .pre in
     let e = sym (c .before .before .before .before .before .before .before .before .act-at .ensures) ∙ ap told (c .before .before .before .before .before .before .end .given .1) in
-    let q = leaf-end (ruleIn (a .rules .now)) (a .input .now) (a .variable) (a .position) _ (r .within .place) e in
+    let q = leaf-end (ruleIn (a .rules .now)) (a .input .now) (a .variable) (a .position) _ (r .within .position) e in
     let m : Settled (length (a .input .now)) (c .before .before .before .before .success .result .0) (success (c .before .before .before .before .before .before .end .given .0 .0)) = record { code-is = c .before .before .before .before .success .ensures; ends = q } in
     rw (c .before .before .settle-asked .ensures .0, c .before .before .settle-asked .ensures .1) (leaf-ends r (c .before .before .before .before .success .result) (success (c .before .before .before .before .before .before .end .given .0 .0)) m e, asked-counts r (c .before .before .before .before .success .result .0) (settled-full (success (c .before .before .before .before .before .before .end .given .0 .0)) m))
 

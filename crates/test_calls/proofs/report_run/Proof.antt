@@ -1,8 +1,8 @@
 use mathlib.Core.Path.{refl}
 use native.Mathlib.Omega.{arith}
 use borrow.Author.Needs.{needs}
-use Rattle.trials.proofs.report_run.Statement.{statement}
-use Rattle.trials.proofs.report_run.Tie as tie
+use Rattle.test_calls.proofs.report_run.Statement.{statement}
+use Rattle.test_calls.proofs.report_run.Tie as tie
 
 enum-known-ending : tie.Need-enum-known-ending
 enum-known-ending c = search needs

@@ -1,7 +1,7 @@
-use Rattle.trials.proofs.Fitting.{writer-fits}
+use Rattle.test_calls.proofs.Fitting.{writer-fits}
 use borrow.Author.Needs.{needs}
-use Rattle.trials.proofs.trials_write.Statement.{statement}
-use Rattle.trials.proofs.trials_write.Tie as tie
+use Rattle.test_calls.proofs.test_write.Statement.{statement}
+use Rattle.test_calls.proofs.test_write.Tie as tie
 
 write-requires : tie.Need-write-requires
 write-requires c κs = search needs
@@ -27,8 +27,8 @@ same-length-3 c = search needs
 returns : tie.Need-returns
 returns c = search needs
 
-pub trials-write-spec : {M : Type 1} → statement M
-trials-write-spec =
+pub test-write-spec : {M : Type 1} → statement M
+test-write-spec =
     tie.close
     (tie.spec
     write-requires

@@ -4,7 +4,7 @@ ghost use mathlib.Core.Path.{_≡_};
 ghost use Rattle.walk.specs.Reply.{told};
 ghost use Rattle.backtrack.specs.Run.{told as ended};
 ghost use Rattle.checker.specs.Checker.{told as claimed};
-ghost use Rattle.trials.specs.Numbers.{returned, reported, Fits, ranCode, runNumbers, RunNumbers, replyCode, writerNumbers, WriterNumbers, claimCode, claimNumbers, CheckNumbers};
+ghost use Rattle.test_calls.specs.Numbers.{returned, reported, Fits, ranCode, runNumbers, RunNumbers, replyCode, writerNumbers, WriterNumbers, claimCode, claimNumbers, CheckNumbers};
 use backtrack::Ending;
 use cells::Cell;
 use checker::Claim;
@@ -40,7 +40,7 @@ fn report_run(ending: Ending, out: &mut [u32; 3]) -> u32
 // The machine's run on a variable at a position of the input, over lent frames. The answer: the outcome's code (5 + q for success ending at q,
 // 1 failure, 3 missing, 4 end, 10,000 spent, 10,001 no frame), the end on success or else 0, the moves.
 #[no_mangle]
-pub extern "C" fn trials_run(
+pub extern "C" fn test_run(
     sheet: &[u8],
     input: &[u8],
     variable: u32,
@@ -80,7 +80,7 @@ fn report_written(answer: Answer, lines: u32, out: &mut [u32; 5]) -> u32
 // The writer's question about a variable at a position of the input, over a lent table, a lent work slice and a lent output. The answer: the
 // cell's code, the named variable, the named position, the count of decided cells, the count of lines.
 #[no_mangle]
-pub extern "C" fn trials_write(
+pub extern "C" fn test_write(
     sheet: &[u8],
     input: &[u8],
     variable: u32,
@@ -117,7 +117,7 @@ fn report_claim(claim: Claim, out: &mut [u32; 2]) -> u32
 // The checker on a reading for a variable at a position of the input. The answer: the code of the outcome that it claims (5 + q for success ending
 // at q, 1 failure), and the end in its last line.
 #[no_mangle]
-pub extern "C" fn trials_check(
+pub extern "C" fn test_check(
     sheet: &[u8],
     input: &[u8],
     variable: u32,

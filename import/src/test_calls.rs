@@ -13,7 +13,7 @@ pub const SPENT: u32 = 10_000;
 pub const NO_FRAME: u32 = 10_001;
 
 unsafe extern "C" {
-    fn trials_run(
+    fn test_run(
         sheet: *const u8,
         sheet_length: usize,
         input: *const u8,
@@ -26,7 +26,7 @@ unsafe extern "C" {
         answer: *mut [u32; 3],
     ) -> u32;
 
-    fn trials_write(
+    fn test_write(
         sheet: *const u8,
         sheet_length: usize,
         input: *const u8,
@@ -42,7 +42,7 @@ unsafe extern "C" {
         answer: *mut [u32; 5],
     ) -> u32;
 
-    fn trials_check(
+    fn test_check(
         sheet: *const u8,
         sheet_length: usize,
         input: *const u8,
@@ -67,7 +67,7 @@ pub fn run(
 ) -> u32 {
     // SAFETY: the call has no precondition; it reads the first two slices, and writes inside the two that are lent exclusively.
     unsafe {
-        trials_run(
+        test_run(
             sheet.as_ptr(),
             sheet.len(),
             entry.as_ptr(),
@@ -94,7 +94,7 @@ pub fn write(
 ) -> u32 {
     // SAFETY: the call has no precondition; it reads the first two slices, and writes inside the four that are lent exclusively.
     unsafe {
-        trials_write(
+        test_write(
             sheet.as_ptr(),
             sheet.len(),
             entry.as_ptr(),
@@ -122,7 +122,7 @@ pub fn check(
 ) -> u32 {
     // SAFETY: the call has no precondition; it reads the three slices, and writes inside the answer.
     unsafe {
-        trials_check(
+        test_check(
             sheet.as_ptr(),
             sheet.len(),
             entry.as_ptr(),

@@ -1,8 +1,8 @@
 use mathlib.Core.Path.{refl}
 use native.Mathlib.Omega.{arith}
 use borrow.Author.Needs.{needs}
-use Rattle.trials.proofs.report_written.Statement.{statement}
-use Rattle.trials.proofs.report_written.Tie as tie
+use Rattle.test_calls.proofs.report_written.Statement.{statement}
+use Rattle.test_calls.proofs.report_written.Tie as tie
 
 enum-known-answer : tie.Need-enum-known-answer
 enum-known-answer c = search needs

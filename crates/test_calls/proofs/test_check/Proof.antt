@@ -1,7 +1,7 @@
-use Rattle.trials.proofs.Fitting.{check-fits, check-numbers}
+use Rattle.test_calls.proofs.Fitting.{check-fits, check-numbers}
 use borrow.Author.Needs.{needs}
-use Rattle.trials.proofs.trials_check.Statement.{statement}
-use Rattle.trials.proofs.trials_check.Tie as tie
+use Rattle.test_calls.proofs.test_check.Statement.{statement}
+use Rattle.test_calls.proofs.test_check.Tie as tie
 
 check-requires : tie.Need-check-requires
 check-requires c κs = search needs
@@ -20,5 +20,5 @@ returns c =
     check-numbers (a .sheet .now) (a .input .now) (a .variable) (a .position) (a .reading .now) (k .result) (k .ensures) (a .answer .now)
     (c .report-claim .last .1 .0) (c .report-claim .result) (t .0) (t .1)
 
-pub trials-check-spec : {M : Type 1} → statement M
-trials-check-spec = tie.close (tie.spec check-requires report-claim-requires returns)
+pub test-check-spec : {M : Type 1} → statement M
+test-check-spec = tie.close (tie.spec check-requires report-claim-requires returns)

@@ -1,5 +1,5 @@
 //! Machine, writer and checker on document 01's marked entries, and refusals 11 to 14.
-use import::{Pair, trials};
+use import::{Pair, test_calls};
 
 /// Sheet H.
 const H: &[u8] = b"    6    1   46    0    0
@@ -41,7 +41,7 @@ const ASKED: Pair = Pair {
 fn run(sheet: &[u8], entry: &[u8], room: usize, budget: u32) -> [u32; 3] {
     let mut frames = vec![7; 3 * room];
     let mut answer = [9; 3];
-    let code = trials::run(sheet, entry, ASKED, &mut frames, budget, &mut answer);
+    let code = test_calls::run(sheet, entry, ASKED, &mut frames, budget, &mut answer);
     assert_eq!(code, 0);
     answer
 }
@@ -50,20 +50,20 @@ fn run(sheet: &[u8], entry: &[u8], room: usize, budget: u32) -> [u32; 3] {
 fn machine() {
     // a, b, c.
     assert_eq!(run(H, b"-6.", 3, 9), [8, 3, 9]);
-    assert_eq!(run(H, b"-6.", 3, 8), [trials::SPENT, 0, 8]);
-    assert_eq!(run(H, b"-6.", 2, 9), [trials::NO_FRAME, 0, 3]);
+    assert_eq!(run(H, b"-6.", 3, 8), [test_calls::SPENT, 0, 8]);
+    assert_eq!(run(H, b"-6.", 2, 9), [test_calls::NO_FRAME, 0, 3]);
     // d, e, f.
     assert_eq!(run(H, b"6.", 100, 100)[..2], [7, 2]);
     assert_eq!(run(H, b"-6", 100, 100)[..2], [4, 0]);
     assert_eq!(run(H, b"x", 100, 100)[..2], [1, 0]);
     // g: a push for each move until there is no room.
-    assert_eq!(run(G, b"", 100, 1000), [trials::NO_FRAME, 0, 99]);
-    assert_eq!(run(G, b"", 100, 50), [trials::SPENT, 0, 50]);
+    assert_eq!(run(G, b"", 100, 1000), [test_calls::NO_FRAME, 0, 99]);
+    assert_eq!(run(G, b"", 100, 50), [test_calls::SPENT, 0, 50]);
     // i, j.
     assert_eq!(run(I, b"aa.", 100, 100), [7, 2, 13]);
     assert_eq!(run(J, b"", 100, 100), [3, 0, 1]);
     // "room 0 gives no frame before all else"
-    assert_eq!(run(J, b"", 0, 100), [trials::NO_FRAME, 0, 0]);
+    assert_eq!(run(J, b"", 0, 100), [test_calls::NO_FRAME, 0, 0]);
 }
 
 /// The writer on variable 1 at place 0, over slices that are just long enough.
@@ -71,7 +71,7 @@ fn write(sheet: &[u8], entry: &[u8], cells: usize) -> ([u32; 5], Vec<u8>) {
     let (mut table, mut work) = (vec![7; cells], vec![7; cells]);
     let mut output = vec![7; 49 * cells];
     let mut answer = [9; 5];
-    let code = trials::write(
+    let code = test_calls::write(
         sheet,
         entry,
         ASKED,
@@ -109,7 +109,7 @@ fn eleven_output() {
         let (mut table, mut work) = (vec![7; table], vec![7; 24]);
         let mut output = vec![7; output];
         let mut answer = [9; 5];
-        let found = trials::write(
+        let found = test_calls::write(
             H,
             b"-6.",
             ASKED,
@@ -127,7 +127,7 @@ fn eleven_output() {
 fn check(variable: u32, place: u32, reading: &[u8]) -> Result<[u32; 2], u32> {
     let asked = Pair { variable, place };
     let mut answer = [9; 2];
-    match trials::check(H, b"-6.", asked, reading, &mut answer) {
+    match test_calls::check(H, b"-6.", asked, reading, &mut answer) {
         0 => Ok(answer),
         code => {
             assert_eq!(answer, [9; 2]);

@@ -1,7 +1,7 @@
-use Rattle.trials.proofs.Fitting.{run-fits}
+use Rattle.test_calls.proofs.Fitting.{run-fits}
 use borrow.Author.Needs.{needs}
-use Rattle.trials.proofs.trials_run.Statement.{statement}
-use Rattle.trials.proofs.trials_run.Tie as tie
+use Rattle.test_calls.proofs.test_run.Statement.{statement}
+use Rattle.test_calls.proofs.test_run.Tie as tie
 
 run-requires : tie.Need-run-requires
 run-requires c κs = search needs
@@ -18,5 +18,5 @@ same-length c = search needs
 returns : tie.Need-returns
 returns c = search needs
 
-pub trials-run-spec : {M : Type 1} → statement M
-trials-run-spec = tie.close (tie.spec run-requires report-run-requires same-length returns)
+pub test-run-spec : {M : Type 1} → statement M
+test-run-spec = tie.close (tie.spec run-requires report-run-requires same-length returns)

@@ -26,13 +26,13 @@ use Rattle.checker.specs.Proper.{claimed}
 use Rattle.checker.specs.declared.Claim.{Claim}
 use Rattle.checker.proofs.Call as checker
 use Rattle.checker.proofs.CheckRefusals.{check-numbers as refusal-numbers}
-use Rattle.trials.specs.Numbers.{returned, reported, Fits, ranCode, replyCode, claimCode, claimNumbers, CheckNumbers}
+use Rattle.test_calls.specs.Numbers.{returned, reported, Fits, ranCode, replyCode, claimCode, claimNumbers, CheckNumbers}
 
 -- The code of an outcome that the pair of an accepted question has.
 accepted-code : (s : List ℕ) (h : Handed) (g : Grammar) (A p : ℕ) → handed s h ≡ accepted g → h .pair ≡ some (A at p)
     → (o : Outcome) → Has (g .rule) (h .input) (A at p) o → code o ≤ 10001
 accepted-code s h g A p e f o d =
-    let k = code-small (g .rule) (h .input) A p o (handed-pair s h g e (A at p) f .place) (handed-input s h g e) d in omega arith
+    let k = code-small (g .rule) (h .input) A p o (handed-pair s h g e (A at p) f .position) (handed-input s h g e) d in omega arith
 
 -- ---- The machine.
 
