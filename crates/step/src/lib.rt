@@ -133,6 +133,22 @@ fn resume(rules: &Rules, n: usize, table: &mut [u32], work: &[u32], x: State, ce
     Step::On(to_second(rules, x, cell))
 }
 
+// Settles the called pair, a leaf, in place, and goes on with its result.
+fn settle_leaf(
+    rules: &Rules,
+    n: usize,
+    table: &mut [u32],
+    work: &[u32],
+    x: State,
+    leaf: Cell,
+) -> Step
+    requires { ⌜ ResumeReady n (now table) (now work) x (leaf .0) × (1 ≤ x .called) × (x .called ≤ 256) × (x .target ≤ n) × (cell n (calledOf x) < length (now table)) ⌝ }
+    ensures { λ r. ⌜ Resumes (ruleIn (now (rules .entry))) n (stored (now (table .entry)) (cell n (calledOf x)) (leaf .0)) (now (work .entry)) (now (table .exit)) x leaf r ⌝ }
+{
+    leaf.store(table, cell_number(n, x.called, x.target));
+    resume(rules, n, table, work, x, leaf)
+}
+
 // One step of the walk, where the called pair is not settled: a leaf is settled at once, and any other pair is opened.
 fn advance_unsettled(
     rules: &Rules,
@@ -147,16 +163,8 @@ fn advance_unsettled(
 {
     let n = input.len();
     match act_at(rules, input, x.called, x.target) {
-        Act::Success(end) => {
-            let leaf = Cell::success(end);
-            leaf.store(table, cell_number(n, x.called, x.target));
-            resume(rules, n, table, work, x, leaf)
-        }
-        Act::Failure => {
-            let leaf = Cell::FAILURE;
-            leaf.store(table, cell_number(n, x.called, x.target));
-            resume(rules, n, table, work, x, leaf)
-        }
+        Act::Success(end) => settle_leaf(rules, n, table, work, x, Cell::success(end)),
+        Act::Failure => settle_leaf(rules, n, table, work, x, Cell::FAILURE),
         Act::Calls(b, _, _) => {
             open_called(n, table, work, x);
             Step::On(State {

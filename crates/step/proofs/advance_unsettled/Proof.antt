@@ -1,13 +1,10 @@
 use Rattle.step.specs.Codes.{Settled}
-use mathlib.Core.Path.{refl, sym, ap, _∙_, subst}
+use mathlib.Core.Path.{refl, sym, ap, _∙_}
 use mathlib.Core.Logic.{inl, inr}
-use Prim.Native.Nat.{ℕ, _<_}
 use native.Mathlib.Omega.{arith}
 use lib.ListN.{length}
 use Rattle.grammar.specs.Words.{ruleIn}
 use Rattle.rules.specs.Act.{told}
-use Rattle.schema.specs.Cells.{stored}
-use Rattle.schema.proofs.Cells.{stored-length}
 use Rattle.schema.specs.Derivation.{success, failure}
 use Rattle.step.specs.Step.{leaf-settled}
 use Rattle.step.proofs.Looking.{failure-settled, leaf-end}
@@ -27,44 +24,29 @@ enum-known-end c = search needs
 
 success-requires : tie.Need-success-requires
 success-requires c κs =
-    let a = c .before .before .before .before .before .before .before .args in
-    let r = c .before .before .before .before .before .before .before .pre .0 in
+    let st = c .before .before .before .before .before .before .before .before .before in
+    let a = st .args in
+    let r = st .pre .0 in
     let b = step-bounds r in
-    let e = sym (c .before .before .before .act-at .ensures) ∙ ap told (c .before .end .given .1) in
+    let e = sym (c .before .before .before .before .before .act-at .ensures) ∙ ap told (c .before .before .before .end .given .1) in
     let q = leaf-end (ruleIn (a .rules .now)) (a .input .now) (a .x .called) (a .x .target) _ (b .called-in .position) e in
     let w = r .walkable .short in
     omega arith
 
-cell-number-requires : tie.Need-cell-number-requires
-cell-number-requires c κs =
-    let r = c .before .before .before .before .before .before .before .before .before .pre .0 in
+settle-leaf-requires : tie.Need-settle-leaf-requires
+settle-leaf-requires c κs =
+    let r = c .before .before .before .before .before .before .before .before .before .before .pre .0 in
     let b = step-bounds r in
-    (b .called-in .low, b .called-high, r .walkable .short, b .called-in .position)
-
-store-requires : tie.Need-store-requires
-store-requires c κs =
-    let b = step-bounds (c .before .before .before .before .before .before .before .before .before .before .pre .0) in
-    subst (λ (i : ℕ). i < length (c .before .before .before .before .before .before .before .before .before .before .args .table .now)) (sym (c .cell-number .ensures)) (b .called-cell)
-
-resume-requires : tie.Need-resume-requires
-resume-requires c κs = resume-ready (c .before .before .before .before .before .before .before .before .before .before .before .before .before .before .before .pre .0) _ (ap length (c .before .before .before .before .store .ensures) ∙ stored-length (c .before .before .before .before .before .before .before .before .before .before .before .before .before .before .before .args .table .now) _ _) _ (inr (omega (arith, c .before .before .before .before .before .before .before .success .ensures)))
+    (resume-ready r _ refl _ (inr (omega (arith, c .success .ensures))), b .called-in .low, b .called-high, b .called-in .position, b .called-cell)
 
 enum-told : tie.Need-enum-told
 enum-told c = search needs
 
-cell-number-requires-2 : tie.Need-cell-number-requires-2
-cell-number-requires-2 c κs =
-    let r = c .before .before .before .before .before .before .before .pre .0 in
+settle-leaf-requires-2 : tie.Need-settle-leaf-requires-2
+settle-leaf-requires-2 c κs =
+    let r = c .before .before .before .before .before .before .before .before .pre .0 in
     let b = step-bounds r in
-    (b .called-in .low, b .called-high, r .walkable .short, b .called-in .position)
-
-store-requires-2 : tie.Need-store-requires-2
-store-requires-2 c κs =
-    let b = step-bounds (c .before .before .before .before .before .before .before .before .pre .0) in
-    subst (λ (i : ℕ). i < length (c .before .before .before .before .before .before .before .before .args .table .now)) (sym (c .cell-number2 .ensures)) (b .called-cell)
-
-resume-requires-2 : tie.Need-resume-requires-2
-resume-requires-2 c κs = resume-ready (c .before .before .before .before .before .before .before .before .before .before .before .before .before .pre .0) _ (ap length (c .before .before .before .before .store2 .ensures) ∙ stored-length (c .before .before .before .before .before .before .before .before .before .before .before .before .before .args .table .now) _ _) _ (inl refl)
+    (resume-ready r _ refl _ (inl refl), b .called-in .low, b .called-high, b .called-in .position, b .called-cell)
 
 enum-known-b : tie.Need-enum-known-b
 enum-known-b c = search needs
@@ -75,8 +57,8 @@ open-called-requires c κs =
     let b = step-bounds r in
     (b .called-in .low, b .called-high, r .walkable .short, b .called-in .position, b .called-cell, b .high, b .position-small, b .deep)
 
-add-t35 : tie.Need-add-t35
-add-t35 c = search needs
+add-t27 : tie.Need-add-t27
+add-t27 c = search needs
 
 enum-told-2 : tie.Need-enum-told-2
 enum-told-2 c = search needs
@@ -87,8 +69,8 @@ open-called-requires-2 c κs =
     let b = step-bounds r in
     (b .called-in .low, b .called-high, r .walkable .short, b .called-in .position, b .called-cell, b .high, b .position-small, b .deep)
 
-add-t42 : tie.Need-add-t42
-add-t42 c = search needs
+add-t34 : tie.Need-add-t34
+add-t34 c = search needs
 
 enum-told-3 : tie.Need-enum-told-3
 enum-told-3 c = search needs
@@ -99,8 +81,8 @@ open-called-requires-3 c κs =
     let b = step-bounds r in
     (b .called-in .low, b .called-high, r .walkable .short, b .called-in .position, b .called-cell, b .high, b .position-small, b .deep)
 
-add-t49 : tie.Need-add-t49
-add-t49 c = search needs
+add-t41 : tie.Need-add-t41
+add-t41 c = search needs
 
 same-length : tie.Need-same-length
 same-length c = search needs
@@ -110,14 +92,14 @@ same-length-2 c = search needs
 
 returns : tie.Need-returns
 returns c =
-    let a = c .before .before .before .before .before .before .before .before .before .before .before .before .before .before .before .before .before .before .args in
-    let r = c .before .before .before .before .before .before .before .before .before .before .before .before .before .before .before .before .before .before .pre .0 in
+    let st = c .before .before .before .before .before .before .before .before .before .before .before .before .before in
+    let a = st .args in
+    let r = st .pre .0 in
     let b = step-bounds r in
-    let e = sym (c .before .before .before .before .before .before .before .before .before .before .before .before .before .before .act-at .ensures) ∙ ap told (c .before .before .before .before .before .before .before .before .before .before .before .before .end .given .1) in
+    let e = sym (c .before .before .before .before .before .before .before .before .before .act-at .ensures) ∙ ap told (c .before .before .before .before .before .before .before .end .given .1) in
     let q = leaf-end (ruleIn (a .rules .now)) (a .input .now) (a .x .called) (a .x .target) _ (b .called-in .position) e in
-    let m : Settled (length (a .input .now)) (c .before .before .before .before .before .before .before .before .before .before .success .result .0) (success (c .before .before .before .before .before .before .before .before .before .before .before .before .end .given .0 .0)) = record { code-is = c .before .before .before .before .before .before .before .before .before .before .success .ensures; ends = q } in
-    let t = c .before .before .before .before .before .before .before .store .ensures ∙ ap (λ (i : ℕ). stored (a .table .now) i (c .before .before .before .before .before .before .before .before .before .before .success .result .0)) (c .before .before .before .before .before .before .before .before .cell-number .ensures) in
-    steps-resume (ruleIn (a .rules .now)) (a .input .now) (a .table .now) (a .work .now) (a .x) (c .before .before .before .before .before .before .before .before .before .before .success .result) {r = success (c .before .before .before .before .before .before .before .before .before .before .before .before .end .given .0 .0)} m (rw t (leaf-settled (c .before .before .before .before .before .before .before .before .before .before .before .before .before .before .before .before .before .before .pre .1) e m)) (r .called) (b .called-cell) (c .before .before .resume .result) (c .before .before .resume .ensures)
+    let m : Settled (length (a .input .now)) (c .before .before .before .success .result .0) (success (c .before .before .before .before .before .before .before .end .given .0 .0)) = record { code-is = c .before .before .before .success .ensures; ends = q } in
+    steps-resume (ruleIn (a .rules .now)) (a .input .now) (a .table .now) (a .work .now) (a .x) (c .before .before .before .success .result) {r = success (c .before .before .before .before .before .before .before .end .given .0 .0)} m (leaf-settled (st .pre .1) e m) (r .called) (b .called-cell) (c .before .before .settle-leaf .result) (c .before .before .settle-leaf .ensures)
 
 same-length-3 : tie.Need-same-length-3
 same-length-3 c = search needs
@@ -127,13 +109,13 @@ same-length-4 c = search needs
 
 returns-2 : tie.Need-returns-2
 returns-2 c =
-    let a = c .before .before .before .before .before .before .before .before .before .before .before .before .before .before .before .before .args in
-    let r = c .before .before .before .before .before .before .before .before .before .before .before .before .before .before .before .before .pre .0 in
+    let st = c .before .before .before .before .before .before .before .before .before .before .before in
+    let a = st .args in
+    let r = st .pre .0 in
     let b = step-bounds r in
-    let e = sym (c .before .before .before .before .before .before .before .before .before .before .before .before .act-at .ensures) ∙ ap told (c .before .before .before .before .before .before .before .before .before .before .enum-told .given .1) in
+    let e = sym (c .before .before .before .before .before .before .before .act-at .ensures) ∙ ap told (c .before .before .before .before .before .enum-told .given .1) in
     let m = failure-settled (length (a .input .now)) 1 refl in
-    let t = c .before .before .before .before .before .before .before .store2 .ensures ∙ ap (λ (i : ℕ). stored (a .table .now) i 1) (c .before .before .before .before .before .before .before .before .cell-number2 .ensures) in
-    steps-resume (ruleIn (a .rules .now)) (a .input .now) (a .table .now) (a .work .now) (a .x) _ {r = failure} m (rw t (leaf-settled (c .before .before .before .before .before .before .before .before .before .before .before .before .before .before .before .before .pre .1) e m)) (r .called) (b .called-cell) (c .before .before .resume2 .result) (c .before .before .resume2 .ensures)
+    steps-resume (ruleIn (a .rules .now)) (a .input .now) (a .table .now) (a .work .now) (a .x) _ {r = failure} m (leaf-settled (st .pre .1) e m) (r .called) (b .called-cell) (c .before .before .settle-leaf2 .result) (c .before .before .settle-leaf2 .ensures)
 
 same-length-5 : tie.Need-same-length-5
 same-length-5 c = search needs
@@ -175,22 +157,18 @@ advance-unsettled-spec =
     act-at-requires
     enum-known-end
     success-requires
-    cell-number-requires
-    store-requires
-    resume-requires
+    settle-leaf-requires
     enum-told
-    cell-number-requires-2
-    store-requires-2
-    resume-requires-2
+    settle-leaf-requires-2
     enum-known-b
     open-called-requires
-    add-t35
+    add-t27
     enum-told-2
     open-called-requires-2
-    add-t42
+    add-t34
     enum-told-3
     open-called-requires-3
-    add-t49
+    add-t41
     same-length
     same-length-2
     returns
