@@ -6,7 +6,7 @@ use lib.ListN.{length}
 use borrow.Author.Tests.{ne-eqb}
 use Rattle.grammar.specs.Refusal.{refused, accepted, checked}
 use Rattle.grammar.specs.Rule.{Rule}
-use Rattle.grammar.specs.Sheet.{Grammar, grammarOf}
+use Rattle.grammar.specs.Sheet.{Grammar}
 use Rattle.grammar.proofs.Accepted.{describes}
 use Rattle.schema.specs.Derivation.{Pair}
 use Rattle.schema.specs.Handed.{asked, handed}

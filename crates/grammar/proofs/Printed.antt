@@ -16,6 +16,7 @@ use Rattle.grammar.specs.Order.{NoneHolds}
 use Rattle.grammar.specs.Printing.{text, headerNumbers, ruleNumbers, ruleRows, printed, listed, listedGrammar, Rising, Printable}
 use Rattle.grammar.proofs.Fitting.{within-both}
 use Rattle.grammar.proofs.Refusals.{accepted-clear}
+use Rattle.grammar.proofs.Progress.{before-next}
 use Rattle.grammar.proofs.Text.{Lines, LinesAt, text-read, text-lines, text-ended}
 
 -- ---- One rule, of v variables.
@@ -74,9 +75,7 @@ module _ (s : List ℕ) (few : variablesOf s ≤ 256) where
   rules-clear n b [] low e h t = tt
   rules-clear n b (r ∷ rs) low e h t =
       let w = here n b r rs h t in
-      let after : variableBefore s (suc n) ≡ r .0 =
-      let k : suc n - 1 ≡ n = omega arith in
-      rw (ne-eqb (suc n) 2 (λ z. omega arith), k) (w .variable-is) in (
+      let after : variableBefore s (suc n) ≡ r .0 = before-next s n low ∙ w .variable-is in (
         w .formed,
         (
           rw (w .variable-is, e, within-both 1 (variablesOf s) (r .0) (omega arith) (h .1), lt-leb (r .0) b (h .0)),

@@ -66,6 +66,12 @@ line-refused s n x k e = sym (remaining-more s n k ∙ rw (← e))
 
 -- ---- The beginning, a step, and the end.
 
+-- The variable before the next line is this line's.
+pub before-next : (s : List ℕ) (n : ℕ) → 2 ≤ n → variableBefore s (suc n) ≡ variableAt s n
+before-next s n low =
+    let e : suc n - 1 ≡ n = omega arith in
+    rw (ne-eqb (suc n) 2 (λ z. omega arith), e)
+
 pub begins : (s : List ℕ) (variables count : ℕ) (stored : List ℕ) → Ready s variables count stored → Progress s count stored 2 0
 unfolding rulesFound ruleWithin
 begins s variables count stored r =
@@ -96,21 +102,19 @@ goes-on s count stored n before A w few l p a =
     let i = a .variable-in in
     let e₁ : n + 1 - 2 ≡ suc k = omega arith in
     let e₂ : k + 2 ≡ n = omega arith in
-    let e₃ : n + 1 - 1 ≡ n = omega arith in
-    let e₄ : n + 1 ≡ suc n = omega arith in
-    let e₅ : count + 1 - n ≡ suc (count + 1 - (n + 1)) = omega arith in
-    let not2 : n + 1 ≡ 2 → ⊥ = λ z. omega arith in
+    let e₃ : n + 1 ≡ suc n = omega arith in
+    let e₄ : count + 1 - n ≡ suc (count + 1 - (n + 1)) = omega arith in
     record {
       low = omega arith;
       high = omega arith;
-      before-is = a .variable-is ∙ sym (rw (ne-eqb (n + 1) 2 not2, e₃));
+      before-is = a .variable-is ∙ sym (ap (variableBefore s) e₃ ∙ before-next s n low);
       rules-are =
           ap (λ (ws : List ℕ). set ws (A - 1) w) (p .rules-are)
           ∙ words-set (ruleWithin s k) (ruleWithin s (suc k)) A w (omega arith) (omega arith)
           (a .word-is ∙ ap word (sym (rule-here s k n A e₂ (a .variable-is)))) (λ X d. rule-other s k n A X e₂ (a .variable-is) d)
           ∙ ap (λ (j : ℕ). words (ruleWithin s j)) (sym e₁);
       rest =
-          ap (λ (j : ℕ). remaining s j (count + 1 - (n + 1))) e₄ ∙ sym (a .onward (count + 1 - (n + 1))) ∙ sym (ap (remaining s n) e₅) ∙ p .rest;
+          ap (λ (j : ℕ). remaining s j (count + 1 - (n + 1))) e₃ ∙ sym (a .onward (count + 1 - (n + 1))) ∙ sym (ap (remaining s n) e₄) ∙ p .rest;
     }
 
 pub ends : (s : List ℕ) (count : ℕ) (stored : List ℕ) (n before : ℕ) → count ≡ lines s → count < n → Progress s count stored n before

@@ -7,15 +7,15 @@ use mathlib.Core.Option.{some, Option·getD}
 use Prim.Native.Nat.{ℕ, zero, suc, _+_, _-_, _*_, _≤_, _<_}
 use native.Mathlib.Omega.{arith}
 use lib.ListN.{length, length-map}
-use borrow.Author.Tests.{ne-eqb}
 use Rattle.columns.proofs.Parts.{five-of}
 use Rattle.columns.proofs.Rows.{fields-length}
 use Rattle.grammar.specs.Refusal.{accepted}
 use Rattle.grammar.specs.Rule.{Rule, absent}
-use Rattle.grammar.specs.Sheet.{Grammar, lines, lineAt, numberAt, variablesOf, startOf, endmarkerOf, variableAt, variableBefore, ruleAt, grammarOf, malformed, sheet}
-use Rattle.grammar.specs.Printing.{headerNumbers, ruleNumbers, ruleRows, printed, listed, listedGrammar, Rising, Printable, PrintedFrom}
+use Rattle.grammar.specs.Sheet.{Grammar, lines, lineAt, numberAt, variablesOf, startOf, endmarkerOf, variableAt, variableBefore, ruleAt, malformed, sheet}
+use Rattle.grammar.specs.Printing.{headerNumbers, ruleNumbers, ruleRows, printed, listedGrammar, Rising, Printable, PrintedFrom}
 use Rattle.grammar.proofs.Accepted.{LineFits, Describes, Made, some-of, rule-made, describes}
 use Rattle.grammar.proofs.Printed.{printed-read}
+use Rattle.grammar.proofs.Progress.{before-next}
 use Rattle.grammar.proofs.Text.{LinesAt, lines-text}
 
 -- ---- The lines of an accepted sheet.
@@ -62,12 +62,9 @@ module _ (s : List ℕ) where
       let made = rule-line n here in
       let variable = here .variable in
       let rest = lined (suc n) k (omega arith) (λ i l. let e : suc i + n ≡ i + suc n = omega arith in subst (LineFits s) e (fit (suc i) (omega arith))) in
-      let after : variableBefore s (suc n) ≡ variableAt s n =
-      let j : suc n - 1 ≡ n = omega arith in
-      rw (ne-eqb (suc n) 2 (λ t. omega arith), j) in
       record {
         count = ap suc (rest .count);
-        rising = (variable .above, variable .high, made .fits, made .present, rw after at (rest .rising));
+        rising = (variable .above, variable .high, made .fits, made .present, rw (before-next s n low) at (rest .rising));
         rows = (five-numbers s n (here .formed) ∙ ap some (sym (made .numbers (variableAt s n))), rest .rows);
       }
 
