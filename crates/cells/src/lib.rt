@@ -1,12 +1,13 @@
-// Cells of a lent table: what one holds, the number of a pair's cell, a pair as one number, and blanking.
+// Cells of a lent table: what one holds, the number of a pair's cell, a caller as one number, and blanking.
 ghost use mathlib.Core.Path.{_≡_};
 ghost use mathlib.Core.List.{_++_};
-ghost use Prim.Native.Nat.{_+_, _≤_, _<_};
+ghost use Prim.Native.Nat.{_+_, _/_, _%_, _≤_, _<_};
+ghost use lib.Dec.{eqb};
 ghost use lib.ListN.{length, drop, replicate};
 ghost use Rattle.schema.specs.Cells.{heldAt, stored};
 ghost use Rattle.schema.specs.Derivation.{_at_};
 ghost use Rattle.schema.specs.Table.{cell};
-ghost use Rattle.cells.specs.Packed.{packed};
+ghost use Rattle.cells.specs.Packed.{entry};
 
 // What a cell of the table holds (document 01: blank, failure, loop, missing, end, or success ending at a position).
 pub struct Cell(pub u32);
@@ -66,12 +67,36 @@ pub fn cell_number(n: usize, variable: u32, position: u32) -> usize
     (variable as usize - 1) * (n + 1) + position as usize
 }
 
-// A pair as one number.
-pub fn pack(variable: u32, position: u32) -> u32
-    requires { ⌜ (variable ≤ 256) × (position ≤ 4096) ⌝ }
-    ensures { λ r. ⌜ r ≡ packed (variable at position) ⌝ }
-{
-    8192 * variable + position
+// A caller: a pair, and whether what it called is its second call.
+pub struct Caller {
+    pub variable: u32,
+    pub position: u32,
+    pub second: bool,
+}
+
+impl Caller {
+    // The caller as one number.
+    pub fn pack(self) -> u32
+        requires { ⌜ (self .variable ≤ 256) × (self .position ≤ 4096) ⌝ }
+        ensures { λ r. ⌜ r ≡ entry (self .second) (self .variable at self .position) ⌝ }
+    {
+        let pair = 8192 * self.variable + self.position;
+        if self.second {
+            return 2 * pair + 1;
+        }
+        2 * pair
+    }
+
+    // The caller of a number.
+    pub fn unpack(word: u32) -> Caller
+        ensures { λ r. ⌜ (r .variable ≡ word / 16384) × (r .position ≡ word / 2 % 8192) × (r .second ≡ eqb (word % 2) 1) ⌝ }
+    {
+        Caller {
+            variable: word / 16384,
+            position: word / 2 % 8192,
+            second: word % 2 == 1,
+        }
+    }
 }
 
 // Blanks the first cells of the table.

@@ -14,7 +14,8 @@ use Rattle.schema.specs.Derivation.{Pair, _at_, Result, second}
 use Rattle.schema.specs.Table.{Within, cell, held}
 use Rattle.schema.proofs.Closed.{calls-call}
 use Rattle.schema.proofs.Cell.{cell-below}
-use Rattle.step.specs.Codes.{Code, openMark, Unsettled, Settled, Called, first-called, second-called, entry, resultOf}
+use Rattle.cells.specs.Packed.{entry}
+use Rattle.step.specs.Codes.{Code, openMark, Unsettled, Settled, Called, first-called, second-called, resultOf}
 use Rattle.step.specs.Step.{LookedUp, settled-before, leaf-settled, topOf, calledOf, StepReady, Settles, GoesBack, ToSecond, ResumeReady, Resumes, Opens, Steps}
 use Rattle.cells.specs.declared.Cell.{Cell}
 use Rattle.step.specs.declared.State.{State}

@@ -3,10 +3,9 @@ use mathlib.Core.Bool.{Bool, true, false, cond}
 use mathlib.Core.List.{List}
 use mathlib.Core.Logic.{_⊎_, _≢_}
 use mathlib.Core.Path.{_≡_}
-use Prim.Native.Nat.{ℕ, _+_, _-_, _*_, _≤_, _<_}
+use Prim.Native.Nat.{ℕ, _+_, _-_, _≤_, _<_}
 use lib.Dec.{eqb}
 use lib.ListN.{length}
-use Rattle.cells.specs.Packed.{packed}
 use Rattle.grammar.specs.Rule.{Rule}
 use Rattle.schema.specs.Cells.{heldAt}
 use Rattle.schema.specs.Closed.{Closed}
@@ -67,9 +66,3 @@ resultOf c = cond (eqb c 1) failure (success (c - 5))
 -- How many cells the next number of a cell decides: one where the cell is blank.
 abbrev pub fresh : ℕ → ℕ
 fresh c = cond (eqb c 0) 1 0
-
--- ---- Callers in the work slice.
-
--- A caller in the work slice: the pair, and whether what it called is its second call.
-abbrev pub entry : Bool → Pair → ℕ
-entry k x = 2 * packed x + cond k 1 0

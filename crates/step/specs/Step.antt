@@ -10,7 +10,8 @@ use Rattle.grammar.specs.Rule.{Rule, call}
 use Rattle.schema.specs.Cells.{stored}
 use Rattle.schema.specs.Derivation.{Pair, _at_, Result, Stop, missing, end, gives, stops, calls, act, second}
 use Rattle.schema.specs.Table.{Within, cell, cells, held}
-use Rattle.step.specs.Codes.{Code, openMark, Unsettled, Settled, Called, Walkable, entry, resultOf}
+use Rattle.cells.specs.Packed.{entry}
+use Rattle.step.specs.Codes.{Code, openMark, Unsettled, Settled, Called, Walkable, resultOf}
 use Rattle.cells.specs.declared.Cell.{Cell}
 use Rattle.step.specs.declared.State.{State}
 use Rattle.step.specs.declared.Step.{Step}

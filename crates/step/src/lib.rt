@@ -7,11 +7,12 @@ ghost use Rattle.grammar.specs.Words.{ruleIn};
 ghost use Rattle.schema.specs.Cells.{stored};
 ghost use Rattle.schema.specs.Derivation.{_at_};
 ghost use Rattle.schema.specs.Table.{cell, held};
-ghost use Rattle.step.specs.Codes.{openMark, Unsettled, Code, entry, fresh};
+ghost use Rattle.cells.specs.Packed.{entry};
+ghost use Rattle.step.specs.Codes.{openMark, Unsettled, Code, fresh};
 ghost use Rattle.step.specs.Step.{topOf, calledOf, StepReady, ToSecond, GoesBack, ResumeReady, Resumes, Steps};
+use cells::Caller;
 use cells::Cell;
 use cells::cell_number;
-use cells::pack;
 use grammar::sheet::Rules;
 use rules::Act;
 use rules::act_at;
@@ -43,29 +44,17 @@ pub enum Step {
     Ended(Walk),
 }
 
-// The number that the work slice holds for a caller, and for whether what it called is its second call.
-fn entry_of(x: State) -> u32
-    requires { ⌜ (x .variable ≤ 256) × (x .position ≤ 4096) ⌝ }
-    ensures { λ r. ⌜ r ≡ entry (x .second) (topOf x) ⌝ }
-{
-    let pair = 2 * pack(x.variable, x.position);
-    let second = x.second;
-    if second {
-        return pair + 1;
-    }
-    pair
-}
-
 // The state at the caller that an entry of the work slice holds, once the top of x is settled.
 fn caller_of(x: State, entry: u32, depth: usize) -> State
     ensures { λ r. ⌜ (r .variable ≡ entry / 16384) × (r .position ≡ entry / 2 % 8192) × (r .second ≡ eqb (entry % 2) 1) × (calledOf r ≡ topOf x) × (r .depth ≡ depth) ⌝ }
 {
+    let caller = Caller::unpack(entry);
     State {
-        variable: entry / 16384,
-        position: entry / 2 % 8192,
+        variable: caller.variable,
+        position: caller.position,
         called: x.variable,
         target: x.position,
-        second: entry % 2 == 1,
+        second: caller.second,
         depth,
     }
 }
@@ -104,8 +93,13 @@ fn open_called(n: usize, table: &mut [u32], work: &mut [u32], x: State)
     ensures notes { λ _. ⌜ now (work .exit) ≡ set (now (work .entry)) (x .depth) (entry (x .second) (topOf x)) ⌝ }
 {
     Cell::OPEN.store(table, cell_number(n, x.called, x.target));
+    let caller = Caller {
+        variable: x.variable,
+        position: x.position,
+        second: x.second,
+    };
     let depth = x.depth;
-    work[depth] = entry_of(x);
+    work[depth] = caller.pack();
 }
 
 // Settles the latest open pair, and goes back to its caller.

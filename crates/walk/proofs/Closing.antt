@@ -15,7 +15,8 @@ use Rattle.schema.proofs.Cells.{stored-there, stored-elsewhere, stored-later, s
 use Rattle.schema.specs.Derivation.{Pair, _at_, Result, failure}
 use Rattle.schema.specs.Table.{Within, cell, cells, held}
 use Rattle.schema.proofs.Cell.{pairOf, PairWithin, cell-below, cell-one, cell-pair, pair-within}
-use Rattle.step.specs.Codes.{openMark, entry}
+use Rattle.cells.specs.Packed.{entry}
+use Rattle.step.specs.Codes.{openMark}
 use Rattle.walk.specs.Walk.{Trail, only-asked, called-by, CloseReady, Closes}
 use Rattle.walk.proofs.Entry.{entry-parts}
 

@@ -6,7 +6,7 @@ use native.Mathlib.Omega.{arith}
 use lib.Dec.{eqb}
 use borrow.Author.Tests.{eq-eqb, ne-eqb}
 use Rattle.schema.specs.Derivation.{_at_}
-use Rattle.step.specs.Codes.{entry}
+use Rattle.cells.specs.Packed.{entry}
 
 -- The entry e is that of C at p, for its second call or its first.
 pub record Parts (e : ℕ) (second : Bool) (C p : ℕ) : Type 0 where

@@ -18,7 +18,8 @@ use Rattle.schema.specs.Derivation.{Pair, _at_, Result, Stop}
 use Rattle.schema.specs.Table.{Within, cell, cells}
 use Rattle.schema.proofs.Held.{heldCells}
 use Rattle.schema.proofs.Cell.{pairOf, PairWithin, cell-pair, pair-cell}
-use Rattle.step.specs.Codes.{Settled, Called, first-called, second-called, entry}
+use Rattle.cells.specs.Packed.{entry}
+use Rattle.step.specs.Codes.{Settled, Called, first-called, second-called}
 use Rattle.walk.specs.Walk.{Trail, only-asked, called-by}
 use Rattle.step.specs.Step.{topOf, calledOf}
 use Rattle.step.specs.declared.State.{State}

@@ -16,7 +16,8 @@ use Rattle.schema.specs.Closed.{Closed}
 use Rattle.schema.specs.Derivation.{Pair, _at_, Result, success, failure, Stop, missing, end, gives, stops, calls, act, second, stopped, result, loop}
 use Rattle.schema.specs.Table.{cell, cells, held}
 use Rattle.schema.proofs.Cell.{pairOf, PairWithin, cell-below, cell-pair, pair-cell, pair-within}
-use Rattle.step.specs.Codes.{openMark, Settled, Called, first-called, second-called, Given, by-leaf, by-calls, entry, resultOf}
+use Rattle.cells.specs.Packed.{entry}
+use Rattle.step.specs.Codes.{openMark, Settled, Called, first-called, second-called, Given, by-leaf, by-calls, resultOf}
 use Rattle.walk.specs.Walk.{Trail, nothing-open, before, WalkReady, WalkEnds, TableEnds, outcomeOf, namedOf, depthOf, StopsAt, SettledCode}
 use Rattle.step.specs.Step.{LookedUp, settled-before, leaf-settled, topOf, calledOf, StepReady, Seconds, Settles, Returns, Opens, Descends, Stuck, StepEnds, Steps}
 use Rattle.cells.specs.declared.Cell.{Cell}

@@ -10,7 +10,8 @@ use Rattle.schema.specs.Cells.{heldAt, stored}
 use Rattle.schema.specs.Derivation.{Pair, _at_, Result, missing, end, calls, act, second, Outcome, result, stopped, loop, Has}
 use Rattle.schema.specs.Reached.{Reached, Named}
 use Rattle.schema.specs.Table.{Within, cell, cells, decided, held}
-use Rattle.step.specs.Codes.{openMark, Settled, Walkable, entry, resultOf}
+use Rattle.cells.specs.Packed.{entry}
+use Rattle.step.specs.Codes.{openMark, Settled, Walkable, resultOf}
 use Rattle.step.specs.declared.Walk.{Walk}
 use Rattle.step.specs.declared.Walk.the-variants as walk
 

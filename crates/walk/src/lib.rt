@@ -13,6 +13,7 @@ ghost use Rattle.walk.specs.Reply.{told, reply};
 ghost use Rattle.walk.specs.Walk.{WalkReady, Counts, WalkEnds, before, CloseReady, Closes};
 ghost use Rattle.walk.specs.Finish.{FinishReady, Finishes};
 ghost use Rattle.walk.specs.Over.{OverReady, Over};
+use cells::Caller;
 use cells::Cell;
 use cells::cell_number;
 use grammar::sheet::Rules;
@@ -136,9 +137,9 @@ fn close(
             return;
         }
         left -= 1;
-        let caller = work[left];
-        a = caller / 16384;
-        p = caller / 2 % 8192;
+        let caller = Caller::unpack(work[left]);
+        a = caller.variable;
+        p = caller.position;
     }
 }
 

@@ -13,10 +13,10 @@ ghost use Rattle.step.specs.Codes.{Code, Settled, resultOf};
 ghost use Rattle.walk.specs.Reply.{told};
 ghost use Rattle.writer.specs.Writer.{SaysWriting, WriterPromise};
 ghost use Rattle.writer.specs.Writing.{numberOf, link, TurnsSecond, CallsReady, TurnsCalls, TurnReady, Turns, StepReady, Steps, LinesReady, WriteReady, WriteEnds, AskWriteReady, hasResult};
+use cells::Caller;
 use cells::Cell;
 use cells::blank;
 use cells::cell_number;
-use cells::pack;
 use columns::write_row;
 use grammar::sheet::Rules;
 use grammar::sheet::Sheet;
@@ -144,7 +144,12 @@ fn link_down(n: usize, work: &mut [u32], x: Stand, variable: u32, position: u32)
     ensures { λ _. ⌜ now (work .exit) ≡ set (now (work .entry)) (cell n (variable at position)) (link (x .variable at x .position)) ⌝ }
 {
     let index = cell_number(n, variable, position);
-    work[index] = 2 * pack(x.variable, x.position) + 1;
+    let caller = Caller {
+        variable: x.variable,
+        position: x.position,
+        second: true,
+    };
+    work[index] = caller.pack();
 }
 
 // Notes the number of a pair's line, and hands back the link that stood there.
@@ -184,13 +189,14 @@ fn advance(
         }
         Turn::Line(i, j) => {
             lay_line(n, table, out, x, i, j);
-            let caller = note_line(n, work, x);
-            if caller == 1 {
+            let link = note_line(n, work, x);
+            if link == 1 {
                 return Step::Ended(x.lines + 1);
             }
+            let caller = Caller::unpack(link);
             Step::On(Stand {
-                variable: caller / 16384,
-                position: caller / 2 % 8192,
+                variable: caller.variable,
+                position: caller.position,
                 lines: x.lines + 1,
             })
         }

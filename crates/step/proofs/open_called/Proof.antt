@@ -1,5 +1,6 @@
 use mathlib.Core.Path.{ap, _∙_}
 use Prim.Native.Nat.{ℕ}
+use lib.ListN.{set}
 use Rattle.step.specs.Codes.{openMark}
 use borrow.Author.Needs.{needs}
 use Rattle.step.proofs.open_called.Statement.{statement}
@@ -12,8 +13,8 @@ cell-number-requires c κs = search needs
 store-requires : tie.Need-store-requires
 store-requires c κs = search needs
 
-entry-of-requires : tie.Need-entry-of-requires
-entry-of-requires c κs = search needs
+pack-requires : tie.Need-pack-requires
+pack-requires c κs = search needs
 
 mul-work : tie.Need-mul-work
 mul-work c = search needs
@@ -30,7 +31,7 @@ same-length-2 c = search needs
 returns : tie.Need-returns
 returns c =
     let a = c .before .before .before .before .before .before .before .before .args in
-    (c .before .before .before .store .ensures ∙ ap (λ (i : ℕ). stored (a .table .now) i openMark) (c .before .before .before .before .cell-number .ensures), ap (λ (k : ℕ). stored (a .work .now) (a .x .depth) k) (c .entry-of .ensures))
+    (c .before .before .before .store .ensures ∙ ap (λ (i : ℕ). stored (a .table .now) i openMark) (c .before .before .before .before .cell-number .ensures), ap (λ (k : ℕ). set (a .work .now) (a .x .depth) k) (c .pack .ensures))
 
 pub open-called-spec : {M : Type 1} → statement M
 open-called-spec =
@@ -38,7 +39,7 @@ open-called-spec =
     (tie.spec
     cell-number-requires
     store-requires
-    entry-of-requires
+    pack-requires
     mul-work
     slice-write-work
     same-length

@@ -7,6 +7,7 @@ use Rattle.schema.specs.Cells.{stored}
 use Rattle.schema.proofs.Cells.{stored-length, view}
 use Rattle.schema.specs.Table.{cells}
 use Rattle.walk.proofs.Closing.{openOr, Closing, begins, top-within, top-in, close-falls, closes, goes-on}
+use borrow.Author.Needs.{needs}
 use Rattle.walk.proofs.close.Statement.{statement}
 use Rattle.walk.proofs.close.Tie as tie
 
@@ -42,34 +43,38 @@ returns c =
 sub-left : tie.Need-sub-left Inv-loop μ-loop
 sub-left c = omega (arith, c .if1 .left)
 
-mul-caller : tie.Need-mul-caller Inv-loop μ-loop
-mul-caller c =
+mul-unpack : tie.Need-mul-unpack Inv-loop μ-loop
+mul-unpack c =
     let r = c .before .before .before .before .before .before .before .before .before .pre in
     let L = c .before .before .before .before .before .before .loop in
     let d = L .inv .deep in
     let m = r .work-room in
     omega (arith, c .if1 .left)
 
-shared-slice-read-caller : tie.Need-shared-slice-read-caller Inv-loop μ-loop
-shared-slice-read-caller c =
+shared-slice-read-unpack : tie.Need-shared-slice-read-unpack Inv-loop μ-loop
+shared-slice-read-unpack c =
     let r = c .before .before .before .before .before .before .before .before .before .before .pre in
     let L = c .before .before .before .before .before .before .before .loop in
     let d = L .inv .deep in
     let m = r .work-room in
     omega (arith, c .before .if1 .left)
 
+unpack-requires : tie.Need-unpack-requires Inv-loop μ-loop
+unpack-requires c κs = search needs
+
 loop-less : tie.Need-loop-less Inv-loop μ-loop
 loop-less c =
-    let L = c .before .before .before .before .before .before .before .loop in
-    let a = c .before .before .before .before .before .before .before .before .before .before .args in
-    rw (c .before .before .before .before .store .ensures ∙ ap (λ (k : ℕ). stored (L .table) k (a .outcome .0)) (c .before .before .before .before .before .cell-number .ensures)) (close-falls (c .before .before .before .before .before .before .before .before .before .before .pre) (L .inv))
+    let L = c .before .before .before .before .before .before .before .before .loop in
+    let a = c .before .before .before .before .before .before .before .before .before .before .before .args in
+    rw (c .before .before .before .before .before .store .ensures ∙ ap (λ (k : ℕ). stored (L .table) k (a .outcome .0)) (c .before .before .before .before .before .before .cell-number .ensures)) (close-falls (c .before .before .before .before .before .before .before .before .before .before .before .pre) (L .inv))
 
 loop-again : tie.Need-loop-again Inv-loop μ-loop
 loop-again c =
-    let L = c .before .before .before .before .before .before .before .loop in
-    let a = c .before .before .before .before .before .before .before .before .before .before .args in
-    let under : L .left ≡ suc (L .left - 1) = omega (arith, c .before .if1 .left) in
-    rw (c .before .before .before .before .store .ensures ∙ ap (λ (k : ℕ). stored (L .table) k (a .outcome .0)) (c .before .before .before .before .before .cell-number .ensures)) (goes-on (c .before .before .before .before .before .before .before .before .before .before .pre) (L .inv) (L .left - 1) under)
+    let L = c .before .before .before .before .before .before .before .before .loop in
+    let a = c .before .before .before .before .before .before .before .before .before .before .before .args in
+    let u = c .unpack .ensures in
+    let under : L .left ≡ suc (L .left - 1) = omega (arith, c .before .before .if1 .left) in
+    rw (u .0, u .1, c .before .before .before .before .before .store .ensures ∙ ap (λ (k : ℕ). stored (L .table) k (a .outcome .0)) (c .before .before .before .before .before .before .cell-number .ensures)) (goes-on (c .before .before .before .before .before .before .before .before .before .before .before .pre) (L .inv) (L .left - 1) under)
 
 pub close-spec : {M : Type 1} → statement M
 close-spec =
@@ -83,7 +88,8 @@ close-spec =
     same-length
     returns
     sub-left
-    mul-caller
-    shared-slice-read-caller
+    mul-unpack
+    shared-slice-read-unpack
+    unpack-requires
     loop-less
     loop-again)
