@@ -12,7 +12,7 @@ use lib.ListN.{length, getD}
 use lib.Seq.{slice, slice-empty}
 use borrow.Author.Tests.{eq-eqb, ne-eqb, le-leb, lt-leb, leb-true, leb-false}
 use Rattle.columns.specs.Column.{number, digitsAfter, zeroThen}
-use Rattle.columns.specs.Scan.{fiveOf}
+use Rattle.columns.specs.Scan.{fiveOf, Long}
 use Rattle.columns.proofs.Laws.{next-column}
 
 -- A digit, and a digit that may come first.
@@ -229,6 +229,22 @@ module _ (left e : ℕ) where
       ∙ sym (first-on a (b ∷ c ∷ d ∷ e ∷ []) h ∙ digit-on (a - 48) b (c ∷ d ∷ e ∷ []) i ∙ digit-on (10 * (a - 48) + (b - 48)) c (d ∷ e ∷ []) j
       ∙ digit-on (10 * (10 * (a - 48) + (b - 48)) + (c - 48)) d (e ∷ []) k ∙ digit-on (10 * (10 * (10 * (a - 48) + (b - 48)) + (c - 48)) + (d - 48)) e [] l
       ∙ all-on (10 * (10 * (10 * (10 * (a - 48) + (b - 48)) + (c - 48)) + (d - 48)) + (e - 48)))
+
+-- The numbers of the last three columns, where these are digits.
+pub record LongBounds (left e : ℕ) : Type 0 where
+  pub third-least : 48 ≤ left / 65536 % 256
+  pub third-most : left / 65536 % 256 ≤ 57
+  pub fourth-least : 48 ≤ left / 16777216
+  pub fourth-most : left / 16777216 ≤ 57
+  pub last-least : 48 ≤ e
+  pub last-most : e ≤ 57
+
+pub long-bounds : {left e : ℕ} → Long left e → LongBounds left e
+long-bounds {left} {e} l =
+    let c = among-bounds 48 57 (left / 65536 % 256) (l .third) in
+    let d = among-bounds 48 57 (left / 16777216) (l .fourth) in
+    let z = among-bounds 48 57 e (l .last) in
+    record { third-least = c .0; third-most = c .1; fourth-least = d .0; fourth-most = d .1; last-least = z .0; last-most = z .1 }
 
 -- The columns of a slice.
 next : (s : List ℕ) (i j end : ℕ) → i + 1 ≡ j → i < end → end ≤ length s → slice i end s ≡ getD s i 0 ∷ slice j end s

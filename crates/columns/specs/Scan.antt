@@ -1,10 +1,11 @@
 -- What the steps of reading and writing a field do. Assumes nothing.
-use mathlib.Core.Bool.{cond}
+use mathlib.Core.Bool.{true, cond, _&&_}
 use mathlib.Core.List.{List, [], _∷_}
+use mathlib.Core.Logic.{_≢_}
 use mathlib.Core.Option.{Option, none, some}
 use mathlib.Core.Path.{_≡_}
 use Prim.Native.Nat.{ℕ, _+_, _/_, _%_, _≤_, _<_}
-use lib.Dec.{eqb}
+use lib.Dec.{eqb, leb}
 use lib.ListN.{getD}
 use lib.Seq.{slice}
 use Rattle.columns.specs.Column.{number}
@@ -30,3 +31,10 @@ leadingByte x = cond (eqb x 0) 32 (48 + x % 10)
 -- Five columns, four of them in one number, the first lowest.
 abbrev pub fiveOf : ℕ → ℕ → List ℕ
 fiveOf left e = left % 256 ∷ left / 256 % 256 ∷ left / 65536 % 256 ∷ left / 16777216 ∷ e ∷ []
+
+-- Of these the last three are digits, and the first two not both blank.
+pub record Long (left e : ℕ) : Type 0 where
+  pub third : (leb 48 (left / 65536 % 256) && leb (left / 65536 % 256) 57) ≡ true
+  pub fourth : (leb 48 (left / 16777216) && leb (left / 16777216) 57) ≡ true
+  pub last : (leb 48 e && leb e 57) ≡ true
+  pub begun : left % 65536 ≢ 8224

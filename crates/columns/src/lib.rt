@@ -6,7 +6,7 @@ ghost use lib.Dec.{leb};
 ghost use lib.ListN.{length, getD};
 ghost use lib.Seq.{slice};
 ghost use Rattle.columns.specs.Column.{column, row, digitsAfter, number, reads, told};
-ghost use Rattle.columns.specs.Scan.{Skipped, held, fiveOf, leadingByte};
+ghost use Rattle.columns.specs.Scan.{Skipped, held, fiveOf, Long, leadingByte};
 
 // The position of a column, counted from 0.
 pub struct Cursor {
@@ -99,6 +99,31 @@ fn four(s: &[u8], at: usize) -> u32
     a + 256 * b + 65536 * c + 16777216 * d
 }
 
+// The number in five columns, of which the last three are digits and the first two not both blank.
+fn long_columns(left: u32, e: u32) -> Digits
+    requires { ⌜ Long left e ⌝ }
+    ensures { λ r. ⌜ held r ≡ number (fiveOf left e) ⌝ }
+{
+    let d = left / 16777216;
+    let c = left / 65536 % 256;
+    let hundreds = 100 * (c - 48) + (10 * (d - 48) + (e - 48));
+    let b = left / 256 % 256;
+    let a = left % 256;
+    if a == 32 {
+        if !among(49, 57, b) {
+            return Digits::Fault;
+        }
+        return Digits::Value(1000 * (b - 48) + hundreds);
+    }
+    if !among(48, 57, b) {
+        return Digits::Fault;
+    }
+    if !among(49, 57, a) {
+        return Digits::Fault;
+    }
+    Digits::Value(10000 * (a - 48) + 1000 * (b - 48) + hundreds)
+}
+
 // The number in five columns, four of them as one number: by digits from the last on, until all that is left is blank.
 fn five_columns(left: u32, e: u32) -> Digits
     ensures { λ r. ⌜ held r ≡ number (fiveOf left e) ⌝ }
@@ -131,22 +156,7 @@ fn five_columns(left: u32, e: u32) -> Digits
     if !among(48, 57, c) {
         return Digits::Fault;
     }
-    let hundreds = 100 * (c - 48) + tens;
-    let b = left / 256 % 256;
-    let a = left % 256;
-    if a == 32 {
-        if !among(49, 57, b) {
-            return Digits::Fault;
-        }
-        return Digits::Value(1000 * (b - 48) + hundreds);
-    }
-    if !among(48, 57, b) {
-        return Digits::Fault;
-    }
-    if !among(49, 57, a) {
-        return Digits::Fault;
-    }
-    Digits::Value(10000 * (a - 48) + 1000 * (b - 48) + hundreds)
+    long_columns(left, e)
 }
 
 impl Cursor {
