@@ -12,7 +12,7 @@ use Rattle.schema.specs.Derivation.{Pair, _at_, Result, success, failure, Outco
 use Rattle.schema.specs.Handed.{handed, asked, questionOf}
 use Rattle.schema.specs.Machine.{spent, noFrame, ran}
 use Rattle.rules.proofs.Admitted.{question-accepted}
-use Rattle.walk.specs.Reply.{Reply, reply, outcomeOf, told}
+use Rattle.walk.specs.Reply.{Reply, reply, outcomeOf, countOf, told}
 use Rattle.memo.specs.Answer.{QuestionPromise}
 use Rattle.walk.specs.declared.Answer.{Answer}
 use Rattle.memo.proofs.Promised.{question-answers, question-reply, case-a, case-g}
@@ -39,6 +39,11 @@ module _ (s input : List ℕ) (A p : ℕ) (table work table′ work′ : List �
   demand-3 =
       let q = question-reply s input A p table work g accepts table′ work′ answer promise in
       let exactly = q .4 in
+      let said = question-answers s input A p table work g accepts table′ work′ answer promise in
+      let answers = said .2 in
+      let told-is = q .1 in
+      let said-is = said .1 in
+      let same : q .0 ≡ said .0 = cc in
       let agrees : (o : Outcome) → Has (g .rule) input (A at p) o → outcomeOf (q .0) ≡ o = λ o h. exactly o .0 h in (
         q .0,
         q .1,
@@ -53,9 +58,11 @@ module _ (s input : List ℕ) (A p : ℕ) (table work table′ work′ : List �
               let f = t .1 in
               let same : c ≡ claimed (A at p) (t .0) = cc in
               agrees (result (t .0)) h ∙ sym (ap claimedOutcome same ∙ claimed-outcome (A at p) (t .0));
-          cells-hold = question-answers s input A p table work g accepts table′ work′ answer promise .2 .leaves .holds;
+          cells-hold = answers .leaves .holds;
+          cells-reached = answers .leaves .others;
           counts = q .2;
           count-most = q .3;
+          count-decided = ap countOf (same ∙ answers .says);
         },
       )
 
