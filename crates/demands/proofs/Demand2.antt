@@ -1,5 +1,5 @@
--- Demand 2, of any results that meet the calls' contracts: the machine's moves and frames, the checker's exactly when, and "every reading we write
--- passes". That success and failure come where the schema derives them and nowhere else is `outcome-exactly` of demand 3. Assumes nothing.
+-- Demand 2, of any results that meet the calls' contracts: what is named is derived, the machine's moves and frames, the checker's exactly when,
+-- and "every reading we write passes". Assumes nothing.
 use mathlib.Core.List.{List, _++_}
 use mathlib.Core.Logic.{_↔_}
 use mathlib.Core.Path.{_≡_, refl, sym, ap, _∙_, subst}
@@ -10,8 +10,8 @@ use lib.Seq.{take-append-seam}
 use Rattle.grammar.specs.Refusal.{Checked, accepted}
 use Rattle.grammar.specs.Sheet.{Grammar}
 use Rattle.grammar.proofs.Accepted.{grammar-in-range}
-use Rattle.schema.specs.Derivation.{Pair, _at_, Result, Derives, Outcome, result, Has}
-use Rattle.schema.specs.Handed.{Handed, handed, asked, writerOf}
+use Rattle.schema.specs.Derivation.{Pair, _at_, Result, success, failure, Derives, Outcome, result, Has}
+use Rattle.schema.specs.Handed.{Handed, handed, asked, verdictOf, writerOf}
 use Rattle.schema.specs.Line.{linesBytes}
 use Rattle.schema.specs.Machine.{says, ran}
 use Rattle.schema.specs.Table.{Within, cells}
@@ -25,15 +25,50 @@ use Rattle.writer.specs.Writer.{Writes, SaysWriting, RepliesWriting, WriterProm
 use Rattle.writer.specs.declared.Written.{Written}
 use Rattle.writer.proofs.LinesNumber.{lines-number}
 use Rattle.cells.proofs.Numbers.{cells-small}
+use Rattle.memo.specs.Verdict.{numbers, judged, VerdictPromise}
+use Rattle.memo.specs.declared.Judgement.{Judgement}
+use Rattle.memo.proofs.Promised.{verdict-reply}
 use Rattle.memo.proofs.Result.{count-is, count-most, outcome-is}
 use Rattle.backtrack.specs.Run as run
 use Rattle.backtrack.specs.declared.Ending.{Ending}
 use Rattle.backtrack.proofs.Call as machine
-use Rattle.checker.specs.Checker.{Checks}
-use Rattle.checker.specs.Proper.{Proper, Claims}
+use Rattle.checker.specs.Checker.{Claimed, told as passes, Checks}
+use Rattle.checker.specs.Proper.{Proper, claimed, Claims}
 use Rattle.checker.specs.declared.Claim.{Claim}
 use Rattle.checker.proofs.Call as checker
+use Rattle.demands.specs.Demands.{claimedOutcome}
 use Rattle.demands.proofs.Passing.{visit-proper}
+
+-- ---- "Success and failure come where it derives them and nowhere else."
+
+-- What the machine names.
+pub machine-derived : (s input : List ℕ) (x : Pair) (frames frames′ : List ℕ) (budget : ℕ) (r : Ending) → run.Runs s input x frames frames′ budget r
+    → (g : Grammar) → handed s (asked input x) ≡ accepted g → (o : Outcome) (moves : ℕ) → run.told r ≡ accepted (ran (says o) moves) → Has (g .rule) input x o
+machine-derived s input x frames frames′ budget r runs g e o moves names = machine.call-derived s input x frames frames′ budget r runs g e o (moves, names)
+
+claimed-outcome : (x : Pair) (t : Result) → claimedOutcome (claimed x t) ≡ result t
+claimed-outcome (A at p) (success q) = refl
+claimed-outcome (A at p) failure = refl
+
+-- What a passed reading claims.
+pub claim-derived : (s input : List ℕ) (x : Pair) (reading : List ℕ) (r : Claim) → Checks s input x reading r
+    → (g : Grammar) → handed s (asked input x) ≡ accepted g → (c : Claimed) → passes r ≡ accepted c → Has (g .rule) input x (claimedOutcome c)
+claim-derived s input x reading r checks g e c q =
+    let t = checker.call-claims s input x reading r checks g e c q in
+    let h = checker.call-derived s input x reading r checks g e (t .0) (t .1) in
+    let f = t .1 in
+    let same : c ≡ claimed x (t .0) = cc in
+    subst (Has (g .rule) input x) (sym (ap claimedOutcome same ∙ claimed-outcome x (t .0))) h
+
+-- The outcome of which a verdict gives the numbers is the one that the start variable has at 0.
+pub verdict-derived : (s input table table′ work work′ : List ℕ) (r : Judgement) → VerdictPromise s input table table′ work work′ r
+    → (g : Grammar) → handed s (verdictOf input (length table) (length work)) ≡ accepted g
+    → (a : Reply) × (numbers r ≡ judged (length input) (accepted a)) × ((o : Outcome) → (outcomeOf a ≡ o) ↔ Has (g .rule) input (g .start at 0) o)
+verdict-derived s input table table′ work work′ r promise g e =
+    let v = verdict-reply s input table work g e table′ work′ r promise in
+    (v .0, v .1, λ o. (v .3 o .1, v .3 o .0))
+
+-- ---- "exactly when".
 
 -- "The backtracking machine gives the outcome of a k-step derivation exactly when it is lent at least 2k - 1 moves and as many frames as the
 -- derivation is high."

@@ -8,7 +8,7 @@ use Rattle.grammar.specs.Printing.{text}
 use Rattle.grammar.specs.Refusal.{accepted}
 use Rattle.grammar.specs.Sheet.{Grammar}
 use Rattle.schema.specs.Cases.{sheetH, header}
-use Rattle.schema.specs.Derivation.{Pair, _at_, Result, success, failure, Outcome, result, loop, Has}
+use Rattle.schema.specs.Derivation.{_at_, success, Outcome, result, loop, Has}
 use Rattle.schema.specs.Handed.{handed, asked, questionOf}
 use Rattle.schema.specs.Machine.{spent, noFrame, ran}
 use Rattle.rules.proofs.Admitted.{question-accepted}
@@ -20,14 +20,8 @@ use Rattle.backtrack.specs.Run as run
 use Rattle.backtrack.specs.declared.Ending.{Ending}
 use Rattle.backtrack.proofs.Call as machine
 use Rattle.backtrack.proofs.Named.{named}
-use Rattle.checker.specs.Checker as checker
-use Rattle.checker.specs.Proper.{claimed}
-use Rattle.checker.proofs.Call as claim
 use Rattle.demands.specs.Demands.{claimedOutcome, Demand3}
-
-claimed-outcome : (x : Pair) (t : Result) → claimedOutcome (claimed x t) ≡ result t
-claimed-outcome (A at p) (success q) = refl
-claimed-outcome (A at p) failure = refl
+use Rattle.demands.proofs.Demand2.{machine-derived, claim-derived}
 
 module _ (s input : List ℕ) (A p : ℕ) (table work table′ work′ : List ℕ) (answer : Answer) (promise : QuestionPromise s input A p table table′ work work′ answer)
     (g : Grammar) (accepts : handed s (questionOf input (A at p) (length table) (length work)) ≡ accepted g) where
@@ -51,13 +45,8 @@ module _ (s input : List ℕ) (A p : ℕ) (table work table′ work′ : List �
           outcome-exactly = λ o. (exactly o .1, exactly o .0);
           machine-agrees = λ budget room o moves e. agrees o (named (g .rule) input (A at p) budget room moves o e);
           run-agrees = λ frames frames′ budget r runs o moves e.
-              agrees o (machine.call-derived s input (A at p) frames frames′ budget r runs g plain o (moves, e));
-          checker-agrees = λ reading r checks c e.
-              let t = claim.call-claims s input (A at p) reading r checks g plain c e in
-              let h = claim.call-derived s input (A at p) reading r checks g plain (t .0) (t .1) in
-              let f = t .1 in
-              let same : c ≡ claimed (A at p) (t .0) = cc in
-              agrees (result (t .0)) h ∙ sym (ap claimedOutcome same ∙ claimed-outcome (A at p) (t .0));
+              agrees o (machine-derived s input (A at p) frames frames′ budget r runs g plain o moves e);
+          checker-agrees = λ reading r checks c e. agrees (claimedOutcome c) (claim-derived s input (A at p) reading r checks g plain c e);
           cells-hold = answers .leaves .holds;
           cells-reached = answers .leaves .others;
           counts = q .2;

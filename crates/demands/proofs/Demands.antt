@@ -7,12 +7,12 @@ use lib.ListN.{length, take}
 use Rattle.grammar.specs.Refusal.{refused, accepted}
 use Rattle.grammar.specs.Sheet.{Grammar}
 use Rattle.grammar.specs.Order.{FirstHolds}
-use Rattle.schema.specs.Derivation.{Pair, _at_, Result, Derives, result}
+use Rattle.schema.specs.Derivation.{Pair, _at_, Result, Derives, Outcome, result, Has}
 use Rattle.schema.specs.Handed.{handed, asked, questionOf, verdictOf, writerOf}
 use Rattle.schema.specs.Machine.{says, ran}
 use Rattle.walk.specs.Reply.{Reply, outcomeOf, told}
 use Rattle.memo.specs.Answer.{QuestionPromise}
-use Rattle.memo.specs.Verdict.{VerdictPromise}
+use Rattle.memo.specs.Verdict.{numbers, judged, VerdictPromise}
 use Rattle.writer.specs.Writer.{WriterPromise}
 use Rattle.walk.specs.declared.Answer.{Answer}
 use Rattle.memo.specs.declared.Judgement.{Judgement}
@@ -20,10 +20,10 @@ use Rattle.writer.specs.declared.Written.{Written}
 use Rattle.backtrack.specs.Run as run
 use Rattle.backtrack.specs.declared.Ending.{Ending}
 use Rattle.checker.specs.Checker as checker
-use Rattle.checker.specs.Checker.{Checks, checkCondition, checkOrder}
+use Rattle.checker.specs.Checker.{Claimed, Checks, checkCondition, checkOrder}
 use Rattle.checker.specs.Proper.{Proper, Claims}
 use Rattle.checker.specs.declared.Claim.{Claim}
-use Rattle.demands.specs.Demands.{Refuses, verdictTold, Demand3}
+use Rattle.demands.specs.Demands.{Refuses, verdictTold, claimedOutcome, Demand3}
 use Rattle.demands.proofs.Demand1 as one
 use Rattle.demands.proofs.Demand2 as two
 use Rattle.demands.proofs.Demand3 as three
@@ -68,7 +68,23 @@ pub demand-1-check : (s input : List ℕ) (x : Pair) (reading : List ℕ) (r : C
     → (y l : ℕ) → (checker.told r ≡ refused y l) ↔ FirstHolds (checkCondition s input x reading) (checkOrder s reading) y l
 demand-1-check = one.check-refused
 
--- ---- Demand 2. "Success and failure come where it derives them and nowhere else": `outcome-exactly` of demand 3.
+-- ---- Demand 2. "Success and failure come where it derives them and nowhere else." For the question this is `outcome-exactly` of demand 3.
+
+-- What the machine names, success, failure, missing or end, the pair has.
+pub demand-2-names : (s input : List ℕ) (x : Pair) (frames frames′ : List ℕ) (budget : ℕ) (r : Ending) → run.Runs s input x frames frames′ budget r
+    → (g : Grammar) → handed s (asked input x) ≡ accepted g → (o : Outcome) (moves : ℕ) → run.told r ≡ accepted (ran (says o) moves) → Has (g .rule) input x o
+demand-2-names = two.machine-derived
+
+-- "these are what a passed reading claims": success or failure, which the pair has.
+pub demand-2-claims : (s input : List ℕ) (x : Pair) (reading : List ℕ) (r : Claim) → Checks s input x reading r
+    → (g : Grammar) → handed s (asked input x) ≡ accepted g → (c : Claimed) → checker.told r ≡ accepted c → Has (g .rule) input x (claimedOutcome c)
+demand-2-claims = two.claim-derived
+
+-- "Verdict asks the start variable at 0": its numbers are those of the outcome that this pair has.
+pub demand-2-verdict : (s input table table′ work work′ : List ℕ) (r : Judgement) → VerdictPromise s input table table′ work work′ r
+    → (g : Grammar) → handed s (verdictOf input (length table) (length work)) ≡ accepted g
+    → (a : Reply) × (numbers r ≡ judged (length input) (accepted a)) × ((o : Outcome) → (outcomeOf a ≡ o) ↔ Has (g .rule) input (g .start at 0) o)
+demand-2-verdict = two.verdict-derived
 
 -- "The backtracking machine gives the outcome of a k-step derivation exactly when it is lent at least 2k - 1 moves and as many frames as the
 -- derivation is high."
