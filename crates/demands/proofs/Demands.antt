@@ -8,7 +8,7 @@ use Rattle.grammar.specs.Refusal.{refused, accepted}
 use Rattle.grammar.specs.Sheet.{Grammar}
 use Rattle.grammar.specs.Order.{FirstHolds}
 use Rattle.schema.specs.Derivation.{Pair, _at_, Result, Derives, Outcome, result, Has}
-use Rattle.schema.specs.Handed.{handed, asked, questionOf, verdictOf, writerOf}
+use Rattle.schema.specs.Handed.{Refuses, handed, asked, questionOf, verdictOf, writerOf}
 use Rattle.schema.specs.Machine.{says, ran}
 use Rattle.walk.specs.Reply.{Reply, outcomeOf, told}
 use Rattle.memo.specs.Answer.{QuestionPromise}
@@ -23,14 +23,15 @@ use Rattle.checker.specs.Checker as checker
 use Rattle.checker.specs.Checker.{Claimed, Checks, checkCondition, checkOrder}
 use Rattle.checker.specs.Proper.{Proper, Claims}
 use Rattle.checker.specs.declared.Claim.{Claim}
-use Rattle.demands.specs.Demands.{Refuses, verdictTold, claimedOutcome, Demand3}
+use Rattle.demands.specs.Demands.{verdictTold, claimedOutcome, Demand3}
 use Rattle.demands.proofs.Demand1 as one
 use Rattle.demands.proofs.Demand2 as two
 use Rattle.demands.proofs.Demand3 as three
 
 -- ---- Demand 1. "A caller may pass anything .., and the call ends: with an outcome, with the machine's spent or no frame, or with one numbered refusal
 -- under exactly the condition in document 01, its table and output then unchanged." That each call ends and meets its contract, whatever it is
--- handed, is what the contracts say, which have no `requires`.
+-- handed, is what the contracts say, which have no `requires`. For the exported calls: entryreader proofs/Demand1.antt;
+-- for the program's output: output proofs/Demands.antt.
 
 -- The question.
 pub demand-1-question : (s input : List ℕ) (A p : ℕ) (table table′ work work′ : List ℕ) (r : Answer) → QuestionPromise s input A p table table′ work work′ r
@@ -98,7 +99,7 @@ pub demand-2-checker : (s input : List ℕ) (x : Pair) (reading : List ℕ) (r :
     → (g : Grammar) → handed s (asked input x) ≡ accepted g → (t : Result) → Claims r x t ↔ Proper g input reading x t
 demand-2-checker = two.checker-exactly
 
--- "every reading we write passes", with the same outcome and end.
+-- "every reading we write passes", with the same outcome and end. For the reading in the program's output: output proofs/Demands.antt.
 pub demand-2-writer : (s input : List ℕ) (A p : ℕ) (table table′ work work′ out out′ : List ℕ) (r : Written) → WriterPromise s input A p table table′ work work′ out out′ r
     → (g : Grammar) → handed s (writerOf input (A at p) (length table) (length work) (length out)) ≡ accepted g
     → (a : Reply) → told (r .answer) ≡ accepted a → (t : Result) → outcomeOf a ≡ result t

@@ -5,10 +5,8 @@ use mathlib.Core.Path.{_≡_}
 use Prim.Native.Nat.{ℕ, _≤_}
 use lib.ListN.{length, take}
 use Rattle.grammar.specs.Refusal.{Checked, refused, accepted}
-use Rattle.grammar.specs.Order.{FirstHolds}
 use Rattle.grammar.specs.Sheet.{Grammar}
 use Rattle.schema.specs.Derivation.{Pair, _at_, success, failure, Outcome, result, Has}
-use Rattle.schema.specs.Handed.{Handed, handedCondition, handedOrder}
 use Rattle.schema.specs.Machine.{says, ran, machine}
 use Rattle.schema.specs.Reached.{Reached, Number}
 use Rattle.schema.specs.Table.{Within, cells, decided, held, Holds}
@@ -22,10 +20,6 @@ use Rattle.checker.specs.Checker.{Claimed, succeeds, fails, Checks, told}
 use Rattle.checker.specs.declared.Claim.{Claim}
 
 -- ---- Demand 1.
-
--- The first condition that holds, of a call that is handed h, is that of the number x at the line l.
-abbrev pub Refuses : List ℕ → Handed → ℕ → ℕ → Type 0
-Refuses s h x l = FirstHolds (handedCondition s h) (handedOrder s) x l
 
 -- A refusal with its number and line, or the numbers of a verdict.
 abbrev pub verdictTold : Judgement → Checked (List ℕ)
