@@ -5,3 +5,4 @@ pub mod Printed
 pub mod Joined
 pub mod Whole
 pub mod Length
+pub mod OneOutput
