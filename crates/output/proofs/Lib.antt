@@ -6,3 +6,4 @@ pub mod Joined
 pub mod Whole
 pub mod Length
 pub mod OneOutput
+pub mod Demands
