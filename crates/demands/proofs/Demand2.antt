@@ -66,6 +66,18 @@ verdict-derived s input table table′ work work′ r promise g e =
     let v = verdict-reply s input table work g e table′ work′ r promise in
     (v .0, v .1, λ o. (v .3 o .1, v .3 o .0))
 
+-- The writer's outcome is the one that the pair has.
+pub written-derived : (s input : List ℕ) (A p : ℕ) (table table′ work work′ out out′ : List ℕ) (r : Written) → WriterPromise s input A p table table′ work work′ out out′ r
+    → (g : Grammar) → handed s (writerOf input (A at p) (length table) (length work) (length out)) ≡ accepted g
+    → (a : Reply) × (told (r .answer) ≡ accepted a) × ((o : Outcome) → (outcomeOf a ≡ o) ↔ Has (g .rule) input (A at p) o)
+written-derived s input A p table table′ work work′ out out′ r promise g accepts =
+    let call = writerOf input (A at p) (length table) (length work) (length out) in
+    let wrote =
+    subst (λ (o : Checked Grammar). RepliesWriting o input (A at p) table table′ work work′ out out′ (told (r .answer)) (r .lines)) accepts promise in
+    let is =
+    outcome-is s call g accepts (A at p) (handed-pair s call g accepts (A at p) refl) (handed-slices s call g accepts (length table) (length work) refl .0) (wrote .2) in
+    (wrote .0, wrote .1, λ o. (is o .1, is o .0))
+
 -- ---- "exactly when".
 
 -- "The backtracking machine gives the outcome of a k-step derivation exactly when it is lent at least 2k - 1 moves and as many frames as the

@@ -87,6 +87,12 @@ pub demand-2-verdict : (s input table table′ work work′ : List ℕ) (r : Jud
     → (a : Reply) × (numbers r ≡ judged (length input) (accepted a)) × ((o : Outcome) → (outcomeOf a ≡ o) ↔ Has (g .rule) input (g .start at 0) o)
 demand-2-verdict = two.verdict-derived
 
+-- "The writer asks the question as the engine does, with the same result": its outcome is the one that the pair has.
+pub demand-2-written : (s input : List ℕ) (A p : ℕ) (table table′ work work′ out out′ : List ℕ) (r : Written) → WriterPromise s input A p table table′ work work′ out out′ r
+    → (g : Grammar) → handed s (writerOf input (A at p) (length table) (length work) (length out)) ≡ accepted g
+    → (a : Reply) × (told (r .answer) ≡ accepted a) × ((o : Outcome) → (outcomeOf a ≡ o) ↔ Has (g .rule) input (A at p) o)
+demand-2-written = two.written-derived
+
 -- "The backtracking machine gives the outcome of a k-step derivation exactly when it is lent at least 2k - 1 moves and as many frames as the
 -- derivation is high."
 pub demand-2-machine : (s input : List ℕ) (x : Pair) (frames frames′ : List ℕ) (budget : ℕ) (r : Ending) → run.Runs s input x frames frames′ budget r
