@@ -69,25 +69,26 @@ pub demand-1-check : (s input : List ℕ) (x : Pair) (reading : List ℕ) (r : C
     → (y l : ℕ) → (checker.told r ≡ refused y l) ↔ FirstHolds (checkCondition s input x reading) (checkOrder s reading) y l
 demand-1-check = one.check-refused
 
--- ---- Demand 2. "Success and failure come where it derives them and nowhere else." For the question this is `outcome-exactly` of demand 3.
+-- ---- Demand 2. "Rules mean what the generalized TMG Recognition Schema (gTS) says. Success and failure come where it derives them and nowhere else."
+-- For the question this is `outcome-exactly` of demand 3.
 
 -- What the machine names, success, failure, missing or end, the pair has.
 pub demand-2-names : (s input : List ℕ) (x : Pair) (frames frames′ : List ℕ) (budget : ℕ) (r : Ending) → run.Runs s input x frames frames′ budget r
     → (g : Grammar) → handed s (asked input x) ≡ accepted g → (o : Outcome) (moves : ℕ) → run.told r ≡ accepted (ran (says o) moves) → Has (g .rule) input x o
 demand-2-names = two.machine-derived
 
--- "these are what a passed reading claims": success or failure, which the pair has.
+-- Document 01: "these are what a passed reading claims". It is a success or a failure, and the pair has it.
 pub demand-2-claims : (s input : List ℕ) (x : Pair) (reading : List ℕ) (r : Claim) → Checks s input x reading r
     → (g : Grammar) → handed s (asked input x) ≡ accepted g → (c : Claimed) → checker.told r ≡ accepted c → Has (g .rule) input x (claimedOutcome c)
 demand-2-claims = two.claim-derived
 
--- "Verdict asks the start variable at 0": its numbers are those of the outcome that this pair has.
+-- Document 01: "Verdict asks the start variable at 0". Its numbers are those of the outcome that this pair has.
 pub demand-2-verdict : (s input table table′ work work′ : List ℕ) (r : Judgement) → VerdictPromise s input table table′ work work′ r
     → (g : Grammar) → handed s (verdictOf input (length table) (length work)) ≡ accepted g
     → (a : Reply) × (numbers r ≡ judged (length input) (accepted a)) × ((o : Outcome) → (outcomeOf a ≡ o) ↔ Has (g .rule) input (g .start at 0) o)
 demand-2-verdict = two.verdict-derived
 
--- "The writer asks the question as the engine does, with the same result": its outcome is the one that the pair has.
+-- Document 01: "The writer asks the question as the engine does, with the same result". Its outcome is the one that the pair has.
 pub demand-2-written : (s input : List ℕ) (A p : ℕ) (table table′ work work′ out out′ : List ℕ) (r : Written) → WriterPromise s input A p table table′ work work′ out out′ r
     → (g : Grammar) → handed s (writerOf input (A at p) (length table) (length work) (length out)) ≡ accepted g
     → (a : Reply) × (told (r .answer) ≡ accepted a) × ((o : Outcome) → (outcomeOf a ≡ o) ↔ Has (g .rule) input (A at p) o)
