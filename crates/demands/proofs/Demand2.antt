@@ -1,18 +1,17 @@
--- Demand 2, of any results that meet the calls' contracts: the machine's moves and frames, the checker's exactly when, and "every reading we write
--- passes". That success and failure come where the schema derives them and nowhere else is `outcome-exactly` of demand 3. Assumes nothing.
-use mathlib.Core.List.{List, _++_}
+-- Demand 2, of any results that meet the calls' contracts: what is named is derived, the machine's moves and frames, the checker's exactly when,
+-- and "every reading we write passes". Assumes nothing.
+use mathlib.Core.List.{List, [], _++_}
 use mathlib.Core.Logic.{_↔_}
 use mathlib.Core.Path.{_≡_, refl, sym, ap, _∙_, subst}
 use Prim.Native.Nat.{ℕ, _*_, _-_, _/_, _≤_}
-use native.Mathlib.Omega.{arith}
 use lib.ListN.{length, take, drop}
 use lib.Seq.{take-append-seam}
 use Rattle.grammar.specs.Refusal.{Checked, accepted}
 use Rattle.grammar.specs.Sheet.{Grammar}
 use Rattle.grammar.proofs.Accepted.{grammar-in-range}
-use Rattle.schema.specs.Derivation.{Pair, _at_, Result, Derives, Outcome, result, Has}
-use Rattle.schema.specs.Handed.{Handed, handed, asked, writerOf}
-use Rattle.schema.specs.Line.{linesBytes}
+use Rattle.schema.specs.Derivation.{Pair, _at_, Result, success, failure, Derives, Outcome, result, Has}
+use Rattle.schema.specs.Handed.{Handed, handed, asked, verdictOf, writerOf}
+use Rattle.schema.specs.Line.{Line, linesBytes}
 use Rattle.schema.specs.Machine.{says, ran}
 use Rattle.schema.specs.Table.{Within, cells}
 use Rattle.rules.proofs.Admitted.{question-accepted}
@@ -21,19 +20,65 @@ use Rattle.schema.proofs.Laws.{number-one}
 use Rattle.schema.proofs.LineLength.{lines-length}
 use Rattle.schema.proofs.SheetClosed.{sheet-closed}
 use Rattle.walk.specs.Reply.{Reply, outcomeOf, countOf, told}
-use Rattle.writer.specs.Writer.{Writes, SaysWriting, RepliesWriting, WriterPromise}
+use Rattle.writer.specs.Writer.{Visits, Writes, SaysWriting, RepliesWriting, WriterPromise}
 use Rattle.writer.specs.declared.Written.{Written}
 use Rattle.writer.proofs.LinesNumber.{lines-number}
-use Rattle.cells.proofs.Numbers.{cells-small}
-use Rattle.memo.proofs.Result.{count-is, count-most, outcome-is}
+use Rattle.memo.specs.Verdict.{numbers, judged, VerdictPromise}
+use Rattle.memo.specs.declared.Judgement.{Judgement}
+use Rattle.memo.proofs.Promised.{verdict-reply}
+use Rattle.memo.proofs.Result.{count-is, outcome-is}
 use Rattle.backtrack.specs.Run as run
 use Rattle.backtrack.specs.declared.Ending.{Ending}
 use Rattle.backtrack.proofs.Call as machine
-use Rattle.checker.specs.Checker.{Checks}
-use Rattle.checker.specs.Proper.{Proper, Claims}
+use Rattle.checker.specs.Checker.{Claimed, told as passes, Checks}
+use Rattle.checker.specs.Proper.{Proper, claimed, Claims}
 use Rattle.checker.specs.declared.Claim.{Claim}
 use Rattle.checker.proofs.Call as checker
+use Rattle.demands.specs.Demands.{claimedOutcome}
 use Rattle.demands.proofs.Passing.{visit-proper}
+
+-- ---- "Success and failure come where it derives them and nowhere else."
+
+-- What the machine names.
+pub machine-derived : (s input : List ℕ) (x : Pair) (frames frames′ : List ℕ) (budget : ℕ) (r : Ending) → run.Runs s input x frames frames′ budget r
+    → (g : Grammar) → handed s (asked input x) ≡ accepted g → (o : Outcome) (moves : ℕ) → run.told r ≡ accepted (ran (says o) moves) → Has (g .rule) input x o
+machine-derived s input x frames frames′ budget r runs g e o moves names = machine.call-derived s input x frames frames′ budget r runs g e o (moves, names)
+
+claimed-outcome : (x : Pair) (t : Result) → claimedOutcome (claimed x t) ≡ result t
+claimed-outcome (A at p) (success q) = refl
+claimed-outcome (A at p) failure = refl
+
+-- What a passed reading claims.
+pub claim-derived : (s input : List ℕ) (x : Pair) (reading : List ℕ) (r : Claim) → Checks s input x reading r
+    → (g : Grammar) → handed s (asked input x) ≡ accepted g → (c : Claimed) → passes r ≡ accepted c → Has (g .rule) input x (claimedOutcome c)
+claim-derived s input x reading r checks g e c q =
+    let t = checker.call-claims s input x reading r checks g e c q in
+    let h = checker.call-derived s input x reading r checks g e (t .0) (t .1) in
+    let f = t .1 in
+    let same : c ≡ claimed x (t .0) = cc in
+    subst (Has (g .rule) input x) (sym (ap claimedOutcome same ∙ claimed-outcome x (t .0))) h
+
+-- The outcome of which a verdict gives the numbers is the one that the start variable has at 0.
+pub verdict-derived : (s input table table′ work work′ : List ℕ) (r : Judgement) → VerdictPromise s input table table′ work work′ r
+    → (g : Grammar) → handed s (verdictOf input (length table) (length work)) ≡ accepted g
+    → (a : Reply) × (numbers r ≡ judged (length input) (accepted a)) × ((o : Outcome) → (outcomeOf a ≡ o) ↔ Has (g .rule) input (g .start at 0) o)
+verdict-derived s input table table′ work work′ r promise g e =
+    let v = verdict-reply s input table work g e table′ work′ r promise in
+    (v .0, v .1, λ o. (v .3 o .1, v .3 o .0))
+
+-- The writer's outcome is the one that the pair has.
+pub written-derived : (s input : List ℕ) (A p : ℕ) (table table′ work work′ out out′ : List ℕ) (r : Written) → WriterPromise s input A p table table′ work work′ out out′ r
+    → (g : Grammar) → handed s (writerOf input (A at p) (length table) (length work) (length out)) ≡ accepted g
+    → (a : Reply) × (told (r .answer) ≡ accepted a) × ((o : Outcome) → (outcomeOf a ≡ o) ↔ Has (g .rule) input (A at p) o)
+written-derived s input A p table table′ work work′ out out′ r promise g accepts =
+    let call = writerOf input (A at p) (length table) (length work) (length out) in
+    let wrote =
+    subst (λ (o : Checked Grammar). RepliesWriting o input (A at p) table table′ work work′ out out′ (told (r .answer)) (r .lines)) accepts promise in
+    let is =
+    outcome-is s call g accepts (A at p) (handed-pair s call g accepts (A at p) refl) (handed-slices s call g accepts (length table) (length work) refl .0) (wrote .2) in
+    (wrote .0, wrote .1, λ o. (is o .1, is o .0))
+
+-- ---- "exactly when".
 
 -- "The backtracking machine gives the outcome of a k-step derivation exactly when it is lent at least 2k - 1 moves and as many frames as the
 -- derivation is high."
@@ -48,6 +93,16 @@ pub checker-exactly : (s input : List ℕ) (x : Pair) (reading : List ℕ) (r : 
 checker-exactly s input x reading r checks g e t = checker.call-exactly s input x reading r checks g e t
 
 -- ---- "every reading we write passes."
+
+-- The lines of a pair that has a result, handed to the checker, pass, with this result.
+pub lines-pass : (s input : List ℕ) (A p : ℕ) (g : Grammar) → handed s (asked input (A at p)) ≡ accepted g → (t : Result) → Has (g .rule) input (A at p) (result t)
+    → (ls : List Line) → Visits (g .rule) input [] (A at p) ls → (c : Claim) → Checks s input (A at p) (linesBytes ls) c → Claims c (A at p) t
+lines-pass s input A p g accepts t has ls visits c checks =
+    let sheet = handed-sheet s (asked input (A at p)) g accepts in
+    let few = grammar-in-range s g sheet .1 in
+    let short = handed-input s (asked input (A at p)) g accepts in
+    let within = handed-pair s (asked input (A at p)) g accepts (A at p) refl in
+    checker-exactly s input (A at p) (linesBytes ls) c checks g accepts t .1 (visit-proper g input (sheet-closed s g sheet) few short ls within has visits)
 
 module _ (s input : List ℕ) (A p : ℕ) (table table′ work work′ out out′ : List ℕ) (r : Written)
     (promise : WriterPromise s input A p table table′ work work′ out out′ r)
@@ -69,12 +124,6 @@ module _ (s input : List ℕ) (A p : ℕ) (table table′ work work′ out out�
   within : Within (g .variables) (length input) A p
   within = handed-pair s call g accepts (A at p) refl
 
-  few : g .variables ≤ 256
-  few = grammar-in-range s g (handed-sheet s call g accepts) .1
-
-  short : length input ≤ 4096
-  short = handed-input s call g accepts
-
   room : cells (g .variables) (length input) ≤ length table
   room = handed-slices s call g accepts (length table) (length work) refl .0
 
@@ -86,14 +135,6 @@ module _ (s input : List ℕ) (A p : ℕ) (table table′ work work′ out out�
   has : Has (g .rule) input (A at p) (result t)
   has = outcome-is s call g accepts (A at p) within room (wrote .2) (result t) .1 (ap outcomeOf same ∙ succeeds)
 
-  proper : Proper g input (linesBytes (writes .lines)) (A at p) t
-  proper =
-      let n = sym (writes .counted) ∙ lines-are-cells in
-      let most = count-most s call g accepts (A at p) within room (wrote .2) in
-      let small = cells-small (g .variables) (length input) few short in
-      let e = ap countOf same in
-      visit-proper g input (sheet-closed s g (handed-sheet s call g accepts)) few short (writes .lines) within has (writes .ordered) (omega arith)
-
   reading-is : take (49 * r .lines) out′ ≡ linesBytes (writes .lines)
   reading-is =
       let ls = writes .lines in
@@ -103,5 +144,5 @@ module _ (s input : List ℕ) (A p : ℕ) (table table′ work work′ out out�
   -- What was written, handed to the checker for the same question, passes, with the same outcome and end.
   pub written-passes : (c : Claim) → Checks s input (A at p) (take (49 * r .lines) out′) c → Claims c (A at p) t
   written-passes c checks =
-      checker-exactly s input (A at p) (take (49 * r .lines) out′) c checks g (question-accepted s call g A p accepts refl) t .1
-      (subst (λ (bytes : List ℕ). Proper g input bytes (A at p) t) (sym reading-is) proper)
+      lines-pass s input A p g (question-accepted s call g A p accepts refl) t has (writes .lines) (writes .ordered) c
+      (subst (λ (bytes : List ℕ). Checks s input (A at p) bytes c) reading-is checks)

@@ -1,33 +1,28 @@
 -- Demand 3, whole: of any results that meet the contracts of the question, the machine's run and the checker. Assumes nothing.
-use mathlib.Core.List.{List, [], _∷_}
+use mathlib.Core.List.{List, [], _∷_, List·Memᴰ}
 use mathlib.Core.Logic.{_⊎_}
-use mathlib.Core.Path.{_≡_, refl, sym, ap, _∙_, subst}
-use Prim.Native.Nat.{ℕ}
+use mathlib.Core.Path.{_≡_, refl, ap, _∙_, subst}
+use Prim.Native.Nat.{ℕ, _≤_}
 use lib.ListN.{length}
 use Rattle.grammar.specs.Printing.{text}
 use Rattle.grammar.specs.Refusal.{accepted}
-use Rattle.grammar.specs.Sheet.{Grammar}
-use Rattle.schema.specs.Cases.{sheetH, header}
-use Rattle.schema.specs.Derivation.{Pair, _at_, Result, success, failure, Outcome, result, loop, Has}
+use Rattle.grammar.specs.Sheet.{Grammar, grammarOf}
+use Rattle.schema.specs.Cases.{Case, cases, sheetH, header}
+use Rattle.schema.specs.Derivation.{_at_, success, Outcome, result, loop, Has}
 use Rattle.schema.specs.Handed.{handed, asked, questionOf}
 use Rattle.schema.specs.Machine.{spent, noFrame, ran}
+use Rattle.schema.specs.Table.{cells}
 use Rattle.rules.proofs.Admitted.{question-accepted}
-use Rattle.walk.specs.Reply.{Reply, reply, outcomeOf, told}
+use Rattle.walk.specs.Reply.{Reply, reply, outcomeOf, countOf, told}
 use Rattle.memo.specs.Answer.{QuestionPromise}
 use Rattle.walk.specs.declared.Answer.{Answer}
-use Rattle.memo.proofs.Promised.{question-answers, question-reply, case-a, case-g}
+use Rattle.memo.proofs.Promised.{question-answers, question-reply, case-accepted, case-answered, cells-a, cells-g}
 use Rattle.backtrack.specs.Run as run
 use Rattle.backtrack.specs.declared.Ending.{Ending}
 use Rattle.backtrack.proofs.Call as machine
 use Rattle.backtrack.proofs.Named.{named}
-use Rattle.checker.specs.Checker as checker
-use Rattle.checker.specs.Proper.{claimed}
-use Rattle.checker.proofs.Call as claim
 use Rattle.demands.specs.Demands.{claimedOutcome, Demand3}
-
-claimed-outcome : (x : Pair) (t : Result) → claimedOutcome (claimed x t) ≡ result t
-claimed-outcome (A at p) (success q) = refl
-claimed-outcome (A at p) failure = refl
+use Rattle.demands.proofs.Demand2.{machine-derived, claim-derived}
 
 module _ (s input : List ℕ) (A p : ℕ) (table work table′ work′ : List ℕ) (answer : Answer) (promise : QuestionPromise s input A p table table′ work work′ answer)
     (g : Grammar) (accepts : handed s (questionOf input (A at p) (length table) (length work)) ≡ accepted g) where
@@ -39,6 +34,11 @@ module _ (s input : List ℕ) (A p : ℕ) (table work table′ work′ : List �
   demand-3 =
       let q = question-reply s input A p table work g accepts table′ work′ answer promise in
       let exactly = q .4 in
+      let said = question-answers s input A p table work g accepts table′ work′ answer promise in
+      let answers = said .2 in
+      let told-is = q .1 in
+      let said-is = said .1 in
+      let same : q .0 ≡ said .0 = cc in
       let agrees : (o : Outcome) → Has (g .rule) input (A at p) o → outcomeOf (q .0) ≡ o = λ o h. exactly o .0 h in (
         q .0,
         q .1,
@@ -46,16 +46,13 @@ module _ (s input : List ℕ) (A p : ℕ) (table work table′ work′ : List �
           outcome-exactly = λ o. (exactly o .1, exactly o .0);
           machine-agrees = λ budget room o moves e. agrees o (named (g .rule) input (A at p) budget room moves o e);
           run-agrees = λ frames frames′ budget r runs o moves e.
-              agrees o (machine.call-derived s input (A at p) frames frames′ budget r runs g plain o (moves, e));
-          checker-agrees = λ reading r checks c e.
-              let t = claim.call-claims s input (A at p) reading r checks g plain c e in
-              let h = claim.call-derived s input (A at p) reading r checks g plain (t .0) (t .1) in
-              let f = t .1 in
-              let same : c ≡ claimed (A at p) (t .0) = cc in
-              agrees (result (t .0)) h ∙ sym (ap claimedOutcome same ∙ claimed-outcome (A at p) (t .0));
-          cells-hold = question-answers s input A p table work g accepts table′ work′ answer promise .2 .leaves .holds;
+              agrees o (machine-derived s input (A at p) frames frames′ budget r runs g plain o moves e);
+          checker-agrees = λ reading r checks c e. agrees (claimedOutcome c) (claim-derived s input (A at p) reading r checks g plain c e);
+          cells-hold = answers .leaves .holds;
+          cells-reached = answers .leaves .others;
           counts = q .2;
           count-most = q .3;
+          count-decided = ap countOf (same ∙ answers .says);
         },
       )
 
@@ -74,20 +71,35 @@ module _ (s input : List ℕ) (A p : ℕ) (table work table′ work′ : List �
   machine-on-loop a e l frames frames′ budget r runs =
       machine.call-on-loop s input (A at p) frames frames′ budget r runs g plain (demand-3-of a e .outcome-exactly loop .0 l)
 
--- Case a: the sign rule of sheet H.
-pub demand-3-a : (table table′ work work′ : List ℕ) (r : Answer) → length table ≡ 1024 → length work ≡ 1024
-    → QuestionPromise (text sheetH) (45 ∷ 54 ∷ 46 ∷ []) 1 0 table table′ work work′ r
-    → (g : Grammar) → handed (text sheetH) (questionOf (45 ∷ 54 ∷ 46 ∷ []) (1 at 0) (length table) (length work)) ≡ accepted g
-    → Demand3 (text sheetH) (45 ∷ 54 ∷ 46 ∷ []) (1 at 0) g table′ (reply (result (success 3)) (0 at 0) 5)
-demand-3-a table table′ work work′ r e f promise g accepts =
-    demand-3-of (text sheetH) (45 ∷ 54 ∷ 46 ∷ []) 1 0 table work table′ work′ r promise g accepts (reply (result (success 3)) (0 at 0) 5)
-    (case-a table table′ work work′ r e f promise)
+-- Each marked case, with any table and work slice of at least V times (n + 1) cells: it is answered as document 01 says, and demand 3 holds.
+pub demand-3-case : (c : Case) → List·Memᴰ c cases → (table table′ work work′ : List ℕ) (r : Answer)
+    → cells (grammarOf (text (c .lines)) .variables) (length (c .input)) ≤ length table
+    → cells (grammarOf (text (c .lines)) .variables) (length (c .input)) ≤ length work
+    → QuestionPromise (text (c .lines)) (c .input) 1 0 table table′ work work′ r
+    → (told r ≡ accepted (reply (c .outcome) (c .named) (c .count)))
+    × Demand3 (text (c .lines)) (c .input) (1 at 0) (grammarOf (text (c .lines))) table′ (reply (c .outcome) (c .named) (c .count))
+demand-3-case c m table table′ work work′ r e f promise =
+    let answers = case-answered c m table table′ work work′ r e f promise in (
+      answers,
+      demand-3-of (text (c .lines)) (c .input) 1 0 table work table′ work′ r promise (grammarOf (text (c .lines)))
+          (case-accepted c m (length table) (length work) e f) (reply (c .outcome) (c .named) (c .count)) answers,
+    )
 
--- Case g: a rule that comes back to itself at the same place.
-pub demand-3-g : (table table′ work work′ : List ℕ) (r : Answer) → length table ≡ 1024 → length work ≡ 1024
+-- Case a, the sign rule of sheet H: V is 6 and n is 3.
+pub demand-3-a : (table table′ work work′ : List ℕ) (r : Answer) → 24 ≤ length table → 24 ≤ length work
+    → QuestionPromise (text sheetH) (45 ∷ 54 ∷ 46 ∷ []) 1 0 table table′ work work′ r
+    → (told r ≡ accepted (reply (result (success 3)) (0 at 0) 5))
+    × Demand3 (text sheetH) (45 ∷ 54 ∷ 46 ∷ []) (1 at 0) (grammarOf (text sheetH)) table′ (reply (result (success 3)) (0 at 0) 5)
+unfolding cases
+demand-3-a table table′ work work′ r e f promise =
+    demand-3-case _ (List·Memᴰ.List·Memᴰ·head refl) table table′ work work′ r (rw cells-a e) (rw cells-a f) promise
+
+-- Case g, a rule that comes back to itself at the same place: V is 1 and n is 0.
+pub demand-3-g : (table table′ work work′ : List ℕ) (r : Answer) → 1 ≤ length table → 1 ≤ length work
     → QuestionPromise (text (header 1 ∷ (1 ∷ 4 ∷ 1 ∷ 1 ∷ 1 ∷ []) ∷ [])) [] 1 0 table table′ work work′ r
-    → (g : Grammar) → handed (text (header 1 ∷ (1 ∷ 4 ∷ 1 ∷ 1 ∷ 1 ∷ []) ∷ [])) (questionOf [] (1 at 0) (length table) (length work)) ≡ accepted g
-    → Demand3 (text (header 1 ∷ (1 ∷ 4 ∷ 1 ∷ 1 ∷ 1 ∷ []) ∷ [])) [] (1 at 0) g table′ (reply loop (1 at 0) 1)
-demand-3-g table table′ work work′ r e f promise g accepts =
-    demand-3-of (text (header 1 ∷ (1 ∷ 4 ∷ 1 ∷ 1 ∷ 1 ∷ []) ∷ [])) [] 1 0 table work table′ work′ r promise g accepts (reply loop (1 at 0) 1)
-    (case-g table table′ work work′ r e f promise)
+    → (told r ≡ accepted (reply loop (1 at 0) 1))
+    × Demand3 (text (header 1 ∷ (1 ∷ 4 ∷ 1 ∷ 1 ∷ 1 ∷ []) ∷ [])) [] (1 at 0) (grammarOf (text (header 1 ∷ (1 ∷ 4 ∷ 1 ∷ 1 ∷ 1 ∷ []) ∷ []))) table′ (reply loop (1 at 0) 1)
+unfolding cases
+demand-3-g table table′ work work′ r e f promise =
+    demand-3-case _ (List·Memᴰ.List·Memᴰ·tail (List·Memᴰ.List·Memᴰ·tail (List·Memᴰ.List·Memᴰ·tail (List·Memᴰ.List·Memᴰ·tail (List·Memᴰ.List·Memᴰ·tail (List·Memᴰ.List·Memᴰ·tail
+    (List·Memᴰ.List·Memᴰ·head refl))))))) table table′ work work′ r (rw cells-g e) (rw cells-g f) promise

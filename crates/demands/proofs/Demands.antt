@@ -7,12 +7,12 @@ use lib.ListN.{length, take}
 use Rattle.grammar.specs.Refusal.{refused, accepted}
 use Rattle.grammar.specs.Sheet.{Grammar}
 use Rattle.grammar.specs.Order.{FirstHolds}
-use Rattle.schema.specs.Derivation.{Pair, _at_, Result, Derives, result}
-use Rattle.schema.specs.Handed.{handed, asked, questionOf, verdictOf, writerOf}
+use Rattle.schema.specs.Derivation.{Pair, _at_, Result, Derives, Outcome, result, Has}
+use Rattle.schema.specs.Handed.{Refuses, handed, asked, questionOf, verdictOf, writerOf}
 use Rattle.schema.specs.Machine.{says, ran}
 use Rattle.walk.specs.Reply.{Reply, outcomeOf, told}
 use Rattle.memo.specs.Answer.{QuestionPromise}
-use Rattle.memo.specs.Verdict.{VerdictPromise}
+use Rattle.memo.specs.Verdict.{numbers, judged, VerdictPromise}
 use Rattle.writer.specs.Writer.{WriterPromise}
 use Rattle.walk.specs.declared.Answer.{Answer}
 use Rattle.memo.specs.declared.Judgement.{Judgement}
@@ -20,17 +20,18 @@ use Rattle.writer.specs.declared.Written.{Written}
 use Rattle.backtrack.specs.Run as run
 use Rattle.backtrack.specs.declared.Ending.{Ending}
 use Rattle.checker.specs.Checker as checker
-use Rattle.checker.specs.Checker.{Checks, checkCondition, checkOrder}
+use Rattle.checker.specs.Checker.{Claimed, Checks, checkCondition, checkOrder}
 use Rattle.checker.specs.Proper.{Proper, Claims}
 use Rattle.checker.specs.declared.Claim.{Claim}
-use Rattle.demands.specs.Demands.{Refuses, verdictTold, Demand3}
+use Rattle.demands.specs.Demands.{verdictTold, claimedOutcome, Demand3}
 use Rattle.demands.proofs.Demand1 as one
 use Rattle.demands.proofs.Demand2 as two
 use Rattle.demands.proofs.Demand3 as three
 
 -- ---- Demand 1. "A caller may pass anything .., and the call ends: with an outcome, with the machine's spent or no frame, or with one numbered refusal
 -- under exactly the condition in document 01, its table and output then unchanged." That each call ends and meets its contract, whatever it is
--- handed, is what the contracts say, which have no `requires`.
+-- handed, is what the contracts say, which have no `requires`. For the exported calls: entryreader proofs/Demand1.antt;
+-- for the program's output: output proofs/Demands.antt.
 
 -- The question.
 pub demand-1-question : (s input : List ℕ) (A p : ℕ) (table table′ work work′ : List ℕ) (r : Answer) → QuestionPromise s input A p table table′ work work′ r
@@ -68,7 +69,30 @@ pub demand-1-check : (s input : List ℕ) (x : Pair) (reading : List ℕ) (r : C
     → (y l : ℕ) → (checker.told r ≡ refused y l) ↔ FirstHolds (checkCondition s input x reading) (checkOrder s reading) y l
 demand-1-check = one.check-refused
 
--- ---- Demand 2. "Success and failure come where it derives them and nowhere else": `outcome-exactly` of demand 3.
+-- ---- Demand 2. "Rules mean what the generalized TMG Recognition Schema (gTS) says. Success and failure come where it derives them and nowhere else."
+-- For the question this is `outcome-exactly` of demand 3.
+
+-- What the machine names, success, failure, missing or end, the pair has.
+pub demand-2-names : (s input : List ℕ) (x : Pair) (frames frames′ : List ℕ) (budget : ℕ) (r : Ending) → run.Runs s input x frames frames′ budget r
+    → (g : Grammar) → handed s (asked input x) ≡ accepted g → (o : Outcome) (moves : ℕ) → run.told r ≡ accepted (ran (says o) moves) → Has (g .rule) input x o
+demand-2-names = two.machine-derived
+
+-- Document 01: "these are what a passed reading claims". It is a success or a failure, and the pair has it.
+pub demand-2-claims : (s input : List ℕ) (x : Pair) (reading : List ℕ) (r : Claim) → Checks s input x reading r
+    → (g : Grammar) → handed s (asked input x) ≡ accepted g → (c : Claimed) → checker.told r ≡ accepted c → Has (g .rule) input x (claimedOutcome c)
+demand-2-claims = two.claim-derived
+
+-- Document 01: "Verdict asks the start variable at 0". Its numbers are those of the outcome that this pair has.
+pub demand-2-verdict : (s input table table′ work work′ : List ℕ) (r : Judgement) → VerdictPromise s input table table′ work work′ r
+    → (g : Grammar) → handed s (verdictOf input (length table) (length work)) ≡ accepted g
+    → (a : Reply) × (numbers r ≡ judged (length input) (accepted a)) × ((o : Outcome) → (outcomeOf a ≡ o) ↔ Has (g .rule) input (g .start at 0) o)
+demand-2-verdict = two.verdict-derived
+
+-- Document 01: "The writer asks the question as the engine does, with the same result". Its outcome is the one that the pair has.
+pub demand-2-written : (s input : List ℕ) (A p : ℕ) (table table′ work work′ out out′ : List ℕ) (r : Written) → WriterPromise s input A p table table′ work work′ out out′ r
+    → (g : Grammar) → handed s (writerOf input (A at p) (length table) (length work) (length out)) ≡ accepted g
+    → (a : Reply) × (told (r .answer) ≡ accepted a) × ((o : Outcome) → (outcomeOf a ≡ o) ↔ Has (g .rule) input (A at p) o)
+demand-2-written = two.written-derived
 
 -- "The backtracking machine gives the outcome of a k-step derivation exactly when it is lent at least 2k - 1 moves and as many frames as the
 -- derivation is high."
@@ -82,7 +106,7 @@ pub demand-2-checker : (s input : List ℕ) (x : Pair) (reading : List ℕ) (r :
     → (g : Grammar) → handed s (asked input x) ≡ accepted g → (t : Result) → Claims r x t ↔ Proper g input reading x t
 demand-2-checker = two.checker-exactly
 
--- "every reading we write passes", with the same outcome and end.
+-- "every reading we write passes", with the same outcome and end. For the reading in the program's output: output proofs/Demands.antt.
 pub demand-2-writer : (s input : List ℕ) (A p : ℕ) (table table′ work work′ out out′ : List ℕ) (r : Written) → WriterPromise s input A p table table′ work work′ out out′ r
     → (g : Grammar) → handed s (writerOf input (A at p) (length table) (length work) (length out)) ≡ accepted g
     → (a : Reply) → told (r .answer) ≡ accepted a → (t : Result) → outcomeOf a ≡ result t

@@ -1,6 +1,6 @@
 -- The demands, over the contracts of the calls.
 pub mod Demand1
-pub mod Demand3
 pub mod Passing
 pub mod Demand2
+pub mod Demand3
 pub mod Demands

@@ -13,8 +13,11 @@ use Rattle.schema.specs.Derivation.{Pair, _at_, Result, success, failure, secon
 use Rattle.schema.specs.Line.{Line, line, lineOf, linesBytes, numbered, Follows, by-leaf, by-call}
 use Rattle.schema.specs.Table.{Within}
 use Rattle.schema.proofs.Ends.{EndsWithin, derives-ends}
+use Rattle.schema.proofs.Walk.{walk-number, walk-count-le}
+use Rattle.cells.proofs.Numbers.{cells-small}
 use Rattle.writer.specs.Writer.{Visits}
 use Rattle.writer.proofs.WriterLaws.{last-line, each-follows}
+use Rattle.writer.proofs.LinesNumber.{lines-count}
 use Rattle.checker.specs.Proper.{EachFollows, no-line, one-more, Proper}
 use Rattle.checker.proofs.Written.{FitLine, FitLines, written-reads}
 
@@ -82,9 +85,17 @@ module _ (g : Grammar) (input : List ℕ) (closed : Closed (g .variables) (g .ru
             fits-more earlier l (h .1 (omega arith)) (follow-fits earlier l (h .1 (omega arith)) (omega arith) f),
       )
 
+  -- There are no more lines than cells.
+  few-lines : {A p : ℕ} (ls : List Line) → Within (g .variables) (length input) A p → Visits (g .rule) input [] (A at p) ls → length ls ≤ 10 ^ 8
+  few-lines {A} {p} ls w visits =
+      let n = lines-count (g .rule) input visits (walk-number (g .rule) input (g .variables) closed (A at p) w) in
+      let most = walk-count-le (g .rule) input (g .variables) closed (A at p) w in
+      let small = cells-small (g .variables) (length input) few short in
+      omega arith
+
   -- The lines of a pair that has a result are a certificate that it has.
   pub visit-proper : {A p : ℕ} {t : Result} (ls : List Line) → Within (g .variables) (length input) A p → Has (g .rule) input (A at p) (result t)
-      → Visits (g .rule) input [] (A at p) ls → length ls ≤ 10 ^ 8 → Proper g input (linesBytes ls) (A at p) t
-  visit-proper ls w has visits n =
+      → Visits (g .rule) input [] (A at p) ls → Proper g input (linesBytes ls) (A at p) t
+  visit-proper ls w has visits =
       let each = each-follows (g .rule) input (g .variables) closed few short Passing more w visits (no-line, λ m. tt) in
-      record { lines = ls; reads = written-reads ls (each .1 n); each = each .0; last = last-line (g .rule) input has visits }
+      record { lines = ls; reads = written-reads ls (each .1 (few-lines ls w visits)); each = each .0; last = last-line (g .rule) input has visits }

@@ -1,17 +1,15 @@
 -- Document 00, sentence by sentence, of any results that meet the contracts of the calls. Assumes nothing.
 use mathlib.Core.List.{List}
-use mathlib.Core.Logic.{_↔_}
+use mathlib.Core.Logic.{_≢_, _↔_}
 use mathlib.Core.Path.{_≡_}
 use Prim.Native.Nat.{ℕ, _≤_}
-use lib.ListN.{length}
+use lib.ListN.{length, take}
 use Rattle.grammar.specs.Refusal.{Checked, refused, accepted}
-use Rattle.grammar.specs.Order.{FirstHolds}
 use Rattle.grammar.specs.Sheet.{Grammar}
-use Rattle.schema.specs.Derivation.{Pair, success, failure, Outcome, result, Has}
-use Rattle.schema.specs.Handed.{Handed, handedCondition, handedOrder}
+use Rattle.schema.specs.Derivation.{Pair, _at_, success, failure, Outcome, result, Has}
 use Rattle.schema.specs.Machine.{says, ran, machine}
 use Rattle.schema.specs.Reached.{Reached, Number}
-use Rattle.schema.specs.Table.{cells, Holds}
+use Rattle.schema.specs.Table.{Within, cells, decided, held, Holds}
 use Rattle.walk.specs.Reply.{Reply, outcomeOf, countOf}
 use Rattle.memo.specs.Verdict.{numbers}
 use Rattle.memo.specs.declared.Judgement.{Judgement}
@@ -22,10 +20,6 @@ use Rattle.checker.specs.Checker.{Claimed, succeeds, fails, Checks, told}
 use Rattle.checker.specs.declared.Claim.{Claim}
 
 -- ---- Demand 1.
-
--- The first condition that holds, of a call that is handed h, is that of the number x at the line l.
-abbrev pub Refuses : List ℕ → Handed → ℕ → ℕ → Type 0
-Refuses s h x l = FirstHolds (handedCondition s h) (handedOrder s) x l
 
 -- A refusal with its number and line, or the numbers of a verdict.
 abbrev pub verdictTold : Judgement → Checked (List ℕ)
@@ -60,6 +54,10 @@ pub record Demand3 (sheet input : List ℕ) (x : Pair) (g : Grammar) (table : Li
   pub checker-agrees : (reading : List ℕ) (r : Claim) → Checks sheet input x reading r → (c : Claimed) → told r ≡ accepted c → outcomeOf a ≡ claimedOutcome c
   -- "Each pair the question reaches has its outcome in its cell, as document 01 writes it;"
   pub cells-hold : (y : Pair) → Reached (g .rule) input x y → Holds (g .rule) input table y
+  -- Document 01: "a cell is non-blank exactly if its pair is reached".
+  pub cells-reached : (A p : ℕ) → Within (g .variables) (length input) A p → held (length input) table (A at p) ≢ 0 → Reached (g .rule) input x (A at p)
   -- "the count of decided cells that the engine reports equals the number of these pairs, and is never more than variables times (bytes + 1)."
   pub counts : Number (Reached (g .rule) input x) (countOf a)
   pub count-most : countOf a ≤ cells (g .variables) (length input)
+  -- Document 01: "the count of decided (non-blank) cells among the first V times (n + 1)".
+  pub count-decided : countOf a ≡ decided (take (cells (g .variables) (length input)) table)

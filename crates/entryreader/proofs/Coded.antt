@@ -16,23 +16,12 @@ use Rattle.schema.specs.Verdict.{verdictCode}
 use Rattle.schema.proofs.Cases.{cases-hold}
 use Rattle.schema.proofs.Handed.{handed-sheet}
 use Rattle.schema.proofs.Laws.{has-one}
-use Rattle.schema.proofs.Small.{refusal-small}
+use Rattle.schema.proofs.Small.{refusal-small, verdict-code-small}
 use Rattle.walk.specs.Reply.{reply}
 use Rattle.memo.specs.Verdict.{numbers, Judges, VerdictPromise}
 use Rattle.memo.specs.Verdict as verdict
 use Rattle.memo.specs.declared.Judgement.{Judgement}
 use Rattle.entryreader.specs.Codes.{exported, Coded, VerdictCode, codeOf}
-
-code-small : (n : ℕ) (o : Outcome) → verdictCode n o ≤ 5
-code-small n (result (success q)) = by-test (eqb q n)
-  where
-    by-test : (t : Bool) → cond t 0 5 ≤ 5
-    by-test true = omega arith
-    by-test false = omega arith
-code-small n (result failure) = omega arith
-code-small n (stopped missing) = omega arith
-code-small n (stopped end) = omega arith
-code-small n loop = omega arith
 
 -- A code is at most 111.
 pub coded-small : (s input : List ℕ) (h : Handed) (r : ℕ) → Coded (handed s h) input r → r ≤ 111
@@ -40,7 +29,7 @@ coded-small s input h r m = by-sheet (handed s h) refl m
   where
     by-sheet : (o : Checked Grammar) → handed s h ≡ o → Coded o input r → r ≤ 111
     by-sheet (refused x l) e m = let k = refusal-small s h x l e in omega arith
-    by-sheet (accepted g) e m = let k = code-small (length input) (m .0) in let q = m .2 in omega arith
+    by-sheet (accepted g) e m = let k = verdict-code-small (length input) (m .0) in let q = m .2 in omega arith
 
 -- The code in the numbers of a verdict is that of its outcome.
 outcome-code : (n : ℕ) (o : Outcome) (z : Pair) (count : ℕ) → codeOf (verdict.judged n (accepted (reply o z count))) ≡ verdictCode n o

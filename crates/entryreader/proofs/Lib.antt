@@ -1,3 +1,4 @@
 -- Laws of the numbers that the exported calls hand over.
 pub mod Coded
 pub mod Reported
+pub mod Demand1

@@ -5,3 +5,5 @@ pub mod Printed
 pub mod Joined
 pub mod Whole
 pub mod Length
+pub mod OneOutput
+pub mod Demands

@@ -6,13 +6,12 @@ use Prim.Native.Nat.{ℕ, _≤_}
 use native.Mathlib.Omega.{arith}
 use Rattle.grammar.specs.Refusal.{refused, checked}
 use Rattle.grammar.specs.Sheet.{grammarOf, condition, sheetOrder, sheet}
-use Rattle.grammar.specs.Order.{FirstHolds}
 use Rattle.grammar.proofs.Refusals.{then, Each, each-append, each-also, refused-exactly, checked-then, checked-below, checked-from}
 use Rattle.grammar.proofs.SheetRefusals.{sheet-numbers}
-use Rattle.schema.specs.Handed.{Handed, callCondition, handedCondition, callOrder, handedOrder, handed}
+use Rattle.schema.specs.Handed.{Handed, callCondition, handedCondition, callOrder, handedOrder, Refuses, handed}
 
 -- The refusals of a call, both ways.
-pub call-refused : (s : List ℕ) (h : Handed) (x l : ℕ) → handed s h ≡ refused x l ↔ FirstHolds (handedCondition s h) (handedOrder s) x l
+pub call-refused : (s : List ℕ) (h : Handed) (x l : ℕ) → handed s h ≡ refused x l ↔ Refuses s h x l
 unfolding handed
 call-refused s h x l = refused-exactly (handedCondition s h) (handedOrder s) (grammarOf s) x l
 

@@ -5,6 +5,7 @@ use mathlib.Core.Option.{Option, none, some}
 use Prim.Native.Nat.{ℕ, _*_}
 use lib.Dec.{ltb, eqb}
 use lib.ListN.{length}
+use Rattle.grammar.specs.Order.{FirstHolds}
 use Rattle.grammar.specs.Refusal.{Checked, checked, from}
 use Rattle.grammar.specs.Rule.{within}
 use Rattle.grammar.specs.Sheet.{Grammar, grammarOf, condition, sheetOrder}
@@ -74,6 +75,10 @@ callOrder = (6, 0) ∷ (7, 0) ∷ (8, 0) ∷ (9, 0) ∷ (10, 0) ∷ (11, 0) ∷ 
 -- "Order: 1 over the sheet; line 1 for 2, 3; each next line for 2, 4, 5; then 6, 7, 8, 9, 10, 11."
 unfoldable pub handedOrder : List ℕ → List (ℕ × ℕ)
 handedOrder s = sheetOrder s ++ callOrder
+
+-- The first condition that holds, of a call that is handed h, is that of the number x at the line l.
+abbrev pub Refuses : List ℕ → Handed → ℕ → ℕ → Type 0
+Refuses s h x l = FirstHolds (handedCondition s h) (handedOrder s) x l
 
 -- The grammar of the sheet that a call is handed, or the call's first refusal.
 unfoldable pub handed : List ℕ → Handed → Checked Grammar

@@ -83,7 +83,7 @@ module _ (rule : ℕ → Rule) (s : List ℕ) where
       ]
 
   -- So a pair is not written before its own line comes.
-  node-unwritten : {before middle after : List Line} {A B C D p i j : ℕ} {r t : Result} → Right rule s before → Unwritten before (A at p) → act rule s (A at p) ≡ calls B C D
+  pub node-unwritten : {before middle after : List Line} {A B C D p i j : ℕ} {r t : Result} → Right rule s before → Unwritten before (A at p) → act rule s (A at p) ≡ calls B C D
       → Visits rule s before (B at p) middle → Stands middle i (B at p) t → Visits rule s middle (second C D p t) after → Stands after j (second C D p t) r
       → Unwritten after (A at p)
   node-unwritten {A = A} {B = B} {C = C} {D = D} {p = p} {i = i} {j = j} {r = r} {t = t} f u e v m w k a q h =
