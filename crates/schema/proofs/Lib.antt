@@ -1,4 +1,5 @@
 -- What the definitions of the schema give.
+pub mod AfterFirst
 pub mod Cells
 pub mod Codes
 pub mod System
