@@ -54,10 +54,10 @@ outcome-code n (stopped missing) (A at p) count = refl
 outcome-code n (stopped end) (A at p) count = refl
 outcome-code n loop (A at p) count = refl
 
--- The code of a verdict over slices of 1,024 cells is the exported one.
-pub verdict-coded : (s input table table′ work work′ : List ℕ) (j : Judgement) → length table ≡ 1024 → length work ≡ 1024
-    → VerdictPromise s input table table′ work work′ j → VerdictCode s input (codeOf (numbers j))
-verdict-coded s input table table′ work work′ j e f promise = rw (e, f) at (by-sheet (handed s (verdictOf input (length table) (length work))) promise)
+-- The code of a verdict is the one that is exported for slices of these lengths.
+pub verdict-coded : (s input table table′ work work′ : List ℕ) (j : Judgement) → VerdictPromise s input table table′ work work′ j
+    → Coded (handed s (verdictOf input (length table) (length work))) input (codeOf (numbers j))
+verdict-coded s input table table′ work work′ j promise = by-sheet (handed s (verdictOf input (length table) (length work))) promise
   where
     by-sheet : (o : Checked Grammar) → Judges o input table table′ work work′ (numbers j) → Coded o input (codeOf (numbers j))
     by-sheet (refused x l) m = ap codeOf (m .0)
