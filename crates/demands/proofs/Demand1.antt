@@ -3,20 +3,18 @@
 use mathlib.Core.List.{List, _∷_}
 use mathlib.Core.Logic.{_↔_}
 use mathlib.Core.Path.{_≡_, refl, sym, ap, _∙_, subst}
-use mathlib.Core.Bool.{Bool, true, false, cond}
-use Prim.Native.Nat.{ℕ, _≤_}
+use Prim.Native.Nat.{ℕ}
 use native.Mathlib.Omega.{arith}
-use lib.Dec.{eqb}
 use lib.ListN.{length}
 use Rattle.calls.proofs.Clash.{clash}
 use Rattle.grammar.specs.Refusal.{Checked, refused, accepted}
 use Rattle.grammar.specs.Sheet.{Grammar}
 use Rattle.grammar.specs.Order.{FirstHolds}
-use Rattle.schema.specs.Derivation.{Pair, _at_, success, failure, missing, end, Outcome, result, stopped, loop}
+use Rattle.schema.specs.Derivation.{Pair, _at_}
 use Rattle.schema.specs.Handed.{Handed, handed, asked, questionOf, verdictOf, writerOf}
 use Rattle.schema.specs.Machine.{Ran}
-use Rattle.schema.specs.Verdict.{verdictCode}
 use Rattle.schema.proofs.CallRefusals.{call-refused}
+use Rattle.schema.proofs.Codes.{verdict-code-most}
 use Rattle.walk.specs.Reply.{Reply, reply, told}
 use Rattle.memo.specs.Answer.{Replies, QuestionPromise}
 use Rattle.memo.specs.Verdict.{numbers, judged, Judges, VerdictPromise}
@@ -95,19 +93,8 @@ told-refused (Loop A p count) n x l e = let h = head-same e in absurd (omega ari
 told-refused (Missing A p count) n x l e = let h = head-same e in absurd (omega arith)
 told-refused (End A p count) n x l e = let h = head-same e in absurd (omega arith)
 
-code-most : (n : ℕ) (o : Outcome) → verdictCode n o ≤ 5
-code-most n (result (success q)) = go (eqb q n)
-  where
-    go : (t : Bool) → cond t 0 5 ≤ 5
-    go true = omega arith
-    go false = omega arith
-code-most n (result failure) = omega arith
-code-most n (stopped missing) = omega arith
-code-most n (stopped end) = omega arith
-code-most n loop = omega arith
-
 told-accepted : (r : Judgement) (n : ℕ) (a : Reply) → numbers r ≡ judged n (accepted a) → (b : List ℕ) × (verdictTold r ≡ accepted b)
-told-accepted (Refused number line) n (reply o (A at p) count) e = let h = head-same e in let m = code-most n o in absurd (omega arith)
+told-accepted (Refused number line) n (reply o (A at p) count) e = let h = head-same e in let m = verdict-code-most n o in absurd (omega arith)
 told-accepted (Recognised q count) n a e = (numbers (Recognised q count), refl)
 told-accepted (Partial q count) n a e = (numbers (Partial q count), refl)
 told-accepted (Failure count) n a e = (numbers (Failure count), refl)

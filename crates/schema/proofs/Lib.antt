@@ -18,6 +18,7 @@ pub mod ClosedBy
 pub mod Tested
 pub mod SheetClosed
 pub mod LineLength
+pub mod Lines
 pub mod Small
 pub mod Eval
 pub mod Cases
