@@ -1,46 +1,13 @@
 -- A certificate whose lines follow proves what each line says. Assumes nothing.
-use mathlib.Core.List.{List, [], _∷_, _++_}
-use mathlib.Core.Logic.{_⊎_, inl, inr}
-use mathlib.Core.Option.{none, some}
-use mathlib.Core.Path.{_≡_, refl, sym, ap, _∙_, subst}
-use Prim.Native.Nat.{ℕ, zero, suc, _+_, _<_, max}
-use native.Mathlib.Decide.{decLt, ℕ-discrete}
-use native.Mathlib.Omega.{arith}
-use lib.ListN.{length, getElem?, length-append}
-use Rattle.calls.proofs.Clash.{clash}
+use mathlib.Core.List.{List}
+use mathlib.Core.Logic.{inl, inr}
+use mathlib.Core.Path.{_≡_, sym, _∙_, subst}
+use Prim.Native.Nat.{ℕ, _+_, max}
 use Rattle.grammar.specs.Sheet.{Grammar}
-use Rattle.schema.specs.Derivation.{Pair, _at_, Result, success, failure, leaf, node, result, Has}
+use Rattle.schema.specs.Derivation.{Pair, _at_, Result, leaf, node, result, Has}
+use Rattle.schema.proofs.Lines.{line-one, stands-none, stands-either}
 use Rattle.schema.specs.Line.{Line, lineOf, Stands, Follows, by-leaf, by-call}
 use Rattle.checker.specs.Proper.{EachFollows, no-line, one-more}
-use Rattle.checker.proofs.Lookup.{past, in-front, at-end}
-
--- A line is that of one pair and one result.
-line-one : (x y : Pair) (r t : Result) (i j k l : ℕ) → lineOf x r i j ≡ lineOf y t k l → (x ≡ y) × (r ≡ t)
-line-one (A at p) (B at q) (success e) (success f) i j k l h = (cc, cc)
-line-one (A at p) (B at q) (success e) failure i j k l h = let z : _≡_ {A = ℕ} 0 1 = cc in absurd (clash z)
-line-one (A at p) (B at q) failure (success f) i j k l h = let z : _≡_ {A = ℕ} 1 0 = cc in absurd (clash (sym z))
-line-one (A at p) (B at q) failure failure i j k l h = (cc, refl)
-
--- A line of one more line is an earlier one, or the last.
-one-of : (earlier : List Line) (l : Line) (n : ℕ) (x : Pair) (r : Result) → Stands (earlier ++ l ∷ []) n x r
-    → Stands earlier n x r ⊎ ((i : ℕ) × (j : ℕ) × (l ≡ lineOf x r i j))
-one-of earlier l zero x r t = let z = t .line in absurd (clash (cc))
-one-of earlier l (suc m) x r t = go (decLt m (length earlier))
-  where
-    beyond : Dec (m ≡ length earlier) → (m < length earlier → ⊥) → Stands earlier (suc m) x r ⊎ ((i : ℕ) × (j : ℕ) × (l ≡ lineOf x r i j))
-    beyond (yes q) n =
-        let a : getElem? (earlier ++ l ∷ []) m ≡ some l = ap (getElem? (earlier ++ l ∷ [])) q ∙ at-end earlier l in
-        let z = t .line in
-        inr (t .first, t .second, cc)
-    beyond (no q) n =
-        let k = length-append earlier (l ∷ []) in
-        let a : getElem? (earlier ++ l ∷ []) m ≡ none = past (earlier ++ l ∷ []) m (omega arith) in
-        let z = t .line in
-        absurd (clash (cc))
-
-    go : Dec (m < length earlier) → Stands earlier (suc m) x r ⊎ ((i : ℕ) × (j : ℕ) × (l ≡ lineOf x r i j))
-    go (yes y) = inl record { first = t .first; second = t .second; line = sym (in-front earlier (l ∷ []) m y) ∙ t .line }
-    go (no n) = beyond (ℕ-discrete m (length earlier)) n
 
 module _ (g : Grammar) (input : List ℕ) where
   abbrev Derived : Pair → Result → Type 0
@@ -60,11 +27,8 @@ module _ (g : Grammar) (input : List ℕ) where
 
   -- Each line of a certificate whose lines follow has a derivation.
   pub each-derived : {ls : List Line} → EachFollows g input ls → (n : ℕ) (x : Pair) (r : Result) → Stands ls n x r → Has (g .rule) input x (result r)
-  each-derived no-line zero x r t = let z = t .line in absurd (clash (cc))
-  each-derived no-line (suc m) x r t = let z = t .line in absurd (clash (cc))
-  each-derived (one-more {earlier} {l} each f) n x r t = go (λ m y u k. each-derived each m y u k) (one-of earlier l n x r t)
-    where
-      go : ((m : ℕ) (y : Pair) (u : Result) → Stands earlier m y u → Derived y u) → Stands earlier n x r ⊎ ((i : ℕ) × (j : ℕ) × (l ≡ lineOf x r i j))
-          → Derived x r
-      go before (inl y) = before n x r y
-      go before (inr y) = follows-derived earlier before l f x r (y .0) (y .1) (y .2)
+  each-derived no-line n x r t = absurd (stands-none t)
+  each-derived (one-more {earlier} {l} each f) n x r t = elim (stands-either earlier l t) [
+    | inl y ↦ each-derived each n x r y
+    | inr y ↦ follows-derived earlier (λ m z u k. each-derived each m z u k) l f x r (y .1) (y .2) (y .3)
+  ]

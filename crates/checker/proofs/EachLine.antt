@@ -12,10 +12,11 @@ use Rattle.grammar.specs.Order.{NoneHolds}
 use Rattle.grammar.specs.Rule.{Rule}
 use Rattle.grammar.specs.Sheet.{Grammar}
 use Rattle.grammar.proofs.Refusals.{none-append}
+use Rattle.schema.proofs.Lines.{element-last}
 use Rattle.schema.specs.Line.{Line, numbered}
 use Rattle.checker.specs.Checker.{lineAt, earlierLine, follows, lineCondition, lineOrder, linesOrder}
 use Rattle.checker.specs.Proper.{EachFollows, no-line, one-more}
-use Rattle.checker.proofs.Lookup.{Begins, in-front, at-end, earlier-lines}
+use Rattle.checker.proofs.Lookup.{Begins, in-front, earlier-lines}
 use Rattle.checker.proofs.Progress.{Passed}
 use Rattle.checker.proofs.Relation.{follows-relation}
 
@@ -65,7 +66,7 @@ module _ (g : Grammar) (input s : List ℕ) where
           let z = ls .size in
           let n = length-append (ls .list) (r .right ∷ []) in
           let q : i ≡ length (ls .list) = omega arith in
-          ap (λ (m : ℕ). lineAt s (suc m)) (q ∙ z) ∙ r .formed ∙ sym (at-end (ls .list) (r .right)) ∙ ap (getElem? (ls .list ++ r .right ∷ [])) (sym q)
+          ap (λ (m : ℕ). lineAt s (suc m)) (q ∙ z) ∙ r .formed ∙ sym (element-last (ls .list) (r .right)) ∙ ap (getElem? (ls .list ++ r .right ∷ [])) (sym q)
 
   -- Lines that pass follow.
   pub passed-lines : (k : ℕ) → Passed (g .rule) (g .variables) input s k → Lines k
@@ -88,7 +89,7 @@ module _ (g : Grammar) (input s : List ℕ) where
         clear-line (g .rule) (g .variables) input s (length earlier)
             record {
               right = l;
-              formed = h (length earlier) (omega arith) ∙ at-end earlier l;
+              formed = h (length earlier) (omega arith) ∙ element-last earlier l;
               given = rw (earlier-lines s earlier front) (follows-relation earlier (g .rule) (g .variables) input l .1 f);
             },
       ))

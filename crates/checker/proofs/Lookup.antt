@@ -1,6 +1,6 @@
 -- Lines by their number. Assumes nothing.
 use mathlib.Core.List.{List, [], _∷_, _++_}
-use mathlib.Core.Option.{none, some}
+use mathlib.Core.Option.{none}
 use mathlib.Core.Path.{_≡_, refl, sym, _∙_, fun-ext}
 use Prim.Native.Nat.{ℕ, zero, suc, _≤_, _<_}
 use native.Mathlib.Decide.{decLt}
@@ -10,7 +10,7 @@ use Rattle.schema.specs.Line.{Line, numbered}
 use Rattle.checker.specs.Checker.{lineAt, earlierLine}
 use Rattle.checker.proofs.LineForm.{no-line, not-earlier, is-earlier}
 
--- There is nothing past the end of a list; a list in front of another keeps its places; what is put behind a list is at its length.
+-- There is nothing past the end of a list; a list in front of another keeps its places.
 pub past : {A : Type 0} (ls : List A) (i : ℕ) → length ls ≤ i → getElem? ls i ≡ none
 past [] i l = refl
 past (a ∷ ls) zero l = absurd (omega arith)
@@ -20,10 +20,6 @@ pub in-front : {A : Type 0} (ls ms : List A) (i : ℕ) → i < length ls → get
 in-front [] ms i l = absurd (omega arith)
 in-front (a ∷ ls) ms zero l = refl
 in-front (a ∷ ls) ms (suc i) l = in-front ls ms i (omega arith)
-
-pub at-end : {A : Type 0} (ls : List A) (a : A) → getElem? (ls ++ a ∷ []) (length ls) ≡ some a
-at-end [] a = refl
-at-end (b ∷ ls) a = at-end ls a
 
 -- The certificate begins with these lines.
 abbrev pub Begins : List ℕ → List Line → Type 0

@@ -14,7 +14,7 @@ use Rattle.schema.specs.Derivation.{Pair, _at_}
 use Rattle.schema.specs.Handed.{Handed, Refuses, handed, asked, questionOf, verdictOf, writerOf}
 use Rattle.schema.specs.Machine.{Ran}
 use Rattle.schema.proofs.CallRefusals.{call-refused}
-use Rattle.schema.proofs.Small.{verdict-code-small}
+use Rattle.schema.proofs.Codes.{verdict-code-most}
 use Rattle.walk.specs.Reply.{Reply, reply, told}
 use Rattle.memo.specs.Answer.{Replies, QuestionPromise}
 use Rattle.memo.specs.Verdict.{numbers, judged, Judges, VerdictPromise}
@@ -94,7 +94,7 @@ told-refused (Missing A p count) n x l e = let h = head-same e in absurd (omega 
 told-refused (End A p count) n x l e = let h = head-same e in absurd (omega arith)
 
 told-accepted : (r : Judgement) (n : ℕ) (a : Reply) → numbers r ≡ judged n (accepted a) → (b : List ℕ) × (verdictTold r ≡ accepted b)
-told-accepted (Refused number line) n (reply o (A at p) count) e = let h = head-same e in let m = verdict-code-small n o in absurd (omega arith)
+told-accepted (Refused number line) n (reply o (A at p) count) e = let h = head-same e in let m = verdict-code-most n o in absurd (omega arith)
 told-accepted (Recognised q count) n a e = (numbers (Recognised q count), refl)
 told-accepted (Partial q count) n a e = (numbers (Partial q count), refl)
 told-accepted (Failure count) n a e = (numbers (Failure count), refl)

@@ -1,27 +1,28 @@
 -- The exported verdict's code. Assumes nothing.
-use mathlib.Core.Bool.{Bool, true, false, cond}
 use mathlib.Core.List.{List, List·Memᴰ}
 use mathlib.Core.Path.{_≡_, refl, sym, ap, _∙_, subst}
-use Prim.Native.Nat.{ℕ, _+_, _≤_}
+use Prim.Native.Nat.{ℕ, _≤_}
 use native.Mathlib.Omega.{arith}
-use lib.Dec.{eqb}
 use lib.ListN.{length}
+use borrow.Author.Tests.{ne-eqb}
 use Rattle.grammar.specs.Refusal.{Checked, refused, accepted}
 use Rattle.grammar.specs.Sheet.{Grammar}
 use Rattle.grammar.specs.Printing.{text}
 use Rattle.schema.specs.Cases.{Case, cases, firstPair, judged}
-use Rattle.schema.specs.Derivation.{Pair, _at_, success, failure, missing, end, Outcome, result, stopped, loop, Has}
+use Rattle.schema.specs.Derivation.{Pair, _at_, Outcome, Has}
+use Rattle.schema.specs.Exported.{exported}
 use Rattle.schema.specs.Handed.{Handed, handed, questionOf, verdictOf}
 use Rattle.schema.specs.Verdict.{verdictCode}
 use Rattle.schema.proofs.Cases.{cases-hold}
+use Rattle.schema.proofs.Codes.{verdict-code-most}
 use Rattle.schema.proofs.Handed.{handed-sheet}
 use Rattle.schema.proofs.Laws.{has-one}
-use Rattle.schema.proofs.Small.{refusal-small, verdict-code-small}
+use Rattle.schema.proofs.Small.{refusal-small}
 use Rattle.walk.specs.Reply.{reply}
 use Rattle.memo.specs.Verdict.{numbers, Judges, VerdictPromise}
 use Rattle.memo.specs.Verdict as verdict
 use Rattle.memo.specs.declared.Judgement.{Judgement}
-use Rattle.entryreader.specs.Codes.{exported, Coded, VerdictCode, codeOf}
+use Rattle.entryreader.specs.Codes.{Coded, VerdictCode, codeOf}
 
 -- A code is at most 111.
 pub coded-small : (s input : List ℕ) (h : Handed) (r : ℕ) → Coded (handed s h) input r → r ≤ 111
@@ -29,24 +30,16 @@ coded-small s input h r m = by-sheet (handed s h) refl m
   where
     by-sheet : (o : Checked Grammar) → handed s h ≡ o → Coded o input r → r ≤ 111
     by-sheet (refused x l) e m = let k = refusal-small s h x l e in omega arith
-    by-sheet (accepted g) e m = let k = verdict-code-small (length input) (m .0) in let q = m .2 in omega arith
+    by-sheet (accepted g) e m = let k = verdict-code-most (length input) (m .0) in let q = m .2 in omega arith
 
 -- The code in the numbers of a verdict is that of its outcome.
 outcome-code : (n : ℕ) (o : Outcome) (z : Pair) (count : ℕ) → codeOf (verdict.judged n (accepted (reply o z count))) ≡ verdictCode n o
-outcome-code n (result (success q)) (A at p) count = by-test (eqb q n)
-  where
-    by-test : (t : Bool) → cond (eqb (cond t 0 5) 9) (100 + A) (cond t 0 5) ≡ cond t 0 5
-    by-test true = refl
-    by-test false = refl
-outcome-code n (result failure) (A at p) count = refl
-outcome-code n (stopped missing) (A at p) count = refl
-outcome-code n (stopped end) (A at p) count = refl
-outcome-code n loop (A at p) count = refl
+outcome-code n o (A at p) count = let k = verdict-code-most n o in rw (ne-eqb (verdictCode n o) 9 (λ e. omega arith)) refl
 
--- The code of a verdict over slices of 1,024 cells is the exported one.
-pub verdict-coded : (s input table table′ work work′ : List ℕ) (j : Judgement) → length table ≡ 1024 → length work ≡ 1024
-    → VerdictPromise s input table table′ work work′ j → VerdictCode s input (codeOf (numbers j))
-verdict-coded s input table table′ work work′ j e f promise = rw (e, f) at (by-sheet (handed s (verdictOf input (length table) (length work))) promise)
+-- The code of a verdict is the one that is exported for slices of these lengths.
+pub verdict-coded : (s input table table′ work work′ : List ℕ) (j : Judgement) → VerdictPromise s input table table′ work work′ j
+    → Coded (handed s (verdictOf input (length table) (length work))) input (codeOf (numbers j))
+verdict-coded s input table table′ work work′ j promise = by-sheet (handed s (verdictOf input (length table) (length work))) promise
   where
     by-sheet : (o : Checked Grammar) → Judges o input table table′ work work′ (numbers j) → Coded o input (codeOf (numbers j))
     by-sheet (refused x l) m = ap codeOf (m .0)

@@ -9,12 +9,13 @@ use lib.ListN.{length}
 use Rattle.grammar.specs.Refusal.{Checked, refused, accepted}
 use Rattle.grammar.specs.Sheet.{Grammar}
 use Rattle.schema.specs.Derivation.{_at_}
+use Rattle.schema.specs.Exported.{returned, reported}
 use Rattle.schema.specs.Handed.{Handed, Refuses, handed, questionOf, verdictOf}
 use Rattle.schema.proofs.CallRefusals.{call-refused}
-use Rattle.schema.proofs.Small.{verdict-code-small}
+use Rattle.schema.proofs.Codes.{verdict-code-most}
 use Rattle.walk.specs.Reply.{told}
 use Rattle.memo.specs.Answer.{Replies}
-use Rattle.entryreader.specs.Codes.{Coded, VerdictCode, returned, reported, QuestionNumbers}
+use Rattle.entryreader.specs.Codes.{Coded, VerdictCode, questionNumbers, QuestionNumbers}
 
 -- A number that is 100 plus the number of a call's refusal, or small where the call is accepted.
 pub record Numbered (s : List ℕ) (h : Handed) (most r : ℕ) : Type 0 where
@@ -48,7 +49,7 @@ module _ (s input : List ℕ) (r : ℕ) (promise : VerdictCode s input r) where
   verdict-numbered : Numbered s (verdictOf input 1024 1024) 5 r
   verdict-numbered = record {
     refused-as = λ x l e. given (refused x l) e;
-    accepted-as = λ g e. let k = given (accepted g) e in let m = verdict-code-small (length input) (k .0) in let q = k .2 in omega arith;
+    accepted-as = λ g e. let k = given (accepted g) e in let m = verdict-code-most (length input) (k .0) in let q = k .2 in omega arith;
   }
     where
       given : (o : Checked Grammar) → handed s (verdictOf input 1024 1024) ≡ o → Coded o input r
@@ -93,5 +94,5 @@ module _ (s input : List ℕ) (A p : ℕ) (table table′ work work′ answer an
   question-unchanged d = by-sheet (handed s call) refl
     where
       by-sheet : (o : Checked Grammar) → handed s call ≡ o → (table′ ≡ table) × (work′ ≡ work) × (answer′ ≡ answer)
-      by-sheet (refused x l) e = let k = given (refused x l) e in (k .1, k .2, promise .reports ∙ ap (reported answer) (k .0))
+      by-sheet (refused x l) e = let k = given (refused x l) e in (k .1, k .2, promise .reports ∙ ap (reported questionNumbers answer) (k .0))
       by-sheet (accepted g) e = absurd (d (promise .returns ∙ ap returned (given (accepted g) e .1)))

@@ -7,6 +7,7 @@ use lib.ListN.{length}
 use Rattle.grammar.specs.Refusal.{Checked, refused, accepted}
 use Rattle.grammar.specs.Sheet.{Grammar}
 use Rattle.schema.specs.Derivation.{_at_, Outcome}
+use Rattle.schema.specs.Exported.{returned, reported, Fits}
 use Rattle.schema.specs.Handed.{handed, questionOf}
 use Rattle.schema.specs.Table.{code}
 use Rattle.schema.proofs.Handed.{handed-input, handed-pair}
@@ -15,20 +16,20 @@ use Rattle.walk.specs.Reply.{outcomeOf, told}
 use Rattle.memo.specs.Answer.{Replies, QuestionPromise}
 use Rattle.walk.specs.declared.Answer.{Answer}
 use Rattle.memo.proofs.Promised.{one-result}
-use Rattle.entryreader.specs.Codes.{returned, reported, QuestionNumbers, Fits}
+use Rattle.entryreader.specs.Codes.{replyCode, questionNumbers, QuestionNumbers}
 
 module _ (s input : List ℕ) (A p : ℕ) (table table′ work work′ : List ℕ) where
   -- The numbers of an answer fit 32 bits.
-  pub answer-fits : (r : Answer) → QuestionPromise s input A p table table′ work work′ r → Fits (told r)
+  pub answer-fits : (r : Answer) → QuestionPromise s input A p table table′ work work′ r → Fits replyCode (told r)
   answer-fits r promise = by-sheet (handed s (questionOf input (A at p) (length table) (length work))) refl promise
     where
       by-sheet : (o : Checked Grammar) → handed s (questionOf input (A at p) (length table) (length work)) ≡ o
-          → Replies o input (A at p) table table′ work work′ (told r) → Fits (told r)
-      by-sheet (refused x l) e m = subst Fits (sym (m .0)) (refusal-small s _ x l e)
+          → Replies o input (A at p) table table′ work work′ (told r) → Fits replyCode (told r)
+      by-sheet (refused x l) e m = let k = refusal-small s _ x l e in subst (Fits replyCode) (sym (m .0)) (omega arith)
       by-sheet (accepted g) e m =
           let a = m .2 in
           let k = code-small (g .rule) input A p (a .outcome) (handed-pair s _ g e (A at p) refl .position) (handed-input s _ g e) (a .has) in
-          subst Fits (sym (m .1)) (subst (λ (o : Outcome). code o ≤ 4101) (sym (ap outcomeOf (a .says))) k)
+          subst (Fits replyCode) (sym (m .1)) (subst (λ (o : Outcome). code o ≤ 10001) (sym (ap outcomeOf (a .says))) (omega arith))
 
 -- One result only: the same number, the same four numbers and the same table.
 pub one-report : (s input : List ℕ) (A p : ℕ) (table table′ table″ work work′ work″ answer answer′ answer″ : List ℕ) (r t : ℕ)
@@ -37,6 +38,6 @@ pub one-report : (s input : List ℕ) (A p : ℕ) (table table′ table″ work 
 one-report s input A p table table′ table″ work work′ work″ answer answer′ answer″ r t one other =
     let same = one-result s input A p table work table′ table″ work′ work″ (one .found) (other .found) (one .promise) (other .promise) in (
       one .returns ∙ ap returned (same .0) ∙ sym (other .returns),
-      one .reports ∙ ap (reported answer) (same .0) ∙ sym (other .reports),
+      one .reports ∙ ap (reported questionNumbers answer) (same .0) ∙ sym (other .reports),
       same .1,
     )

@@ -2,23 +2,19 @@
 use mathlib.Core.Bool.{cond}
 use mathlib.Core.List.{List, [], _∷_}
 use mathlib.Core.Path.{_≡_}
-use Prim.Native.Nat.{ℕ, _+_, _≤_}
+use Prim.Native.Nat.{ℕ, _+_}
 use lib.Dec.{eqb}
 use lib.ListN.{length, getD}
 use Rattle.grammar.specs.Refusal.{Checked, refused, accepted}
 use Rattle.grammar.specs.Sheet.{Grammar}
 use Rattle.schema.specs.Derivation.{_at_, Outcome, Has}
+use Rattle.schema.specs.Exported.{returned, reported}
 use Rattle.schema.specs.Handed.{handed, verdictOf}
 use Rattle.schema.specs.Table.{code}
 use Rattle.schema.specs.Verdict.{verdictCode}
 use Rattle.walk.specs.Reply.{Reply, reply, outcomeOf, told}
 use Rattle.memo.specs.Answer.{QuestionPromise}
 use Rattle.walk.specs.declared.Answer.{Answer}
-
--- "or 100 plus the refusal number"
-abbrev pub exported : {A : Type 0} → (A → ℕ) → Checked A → ℕ
-exported number-of (refused number line) = 100 + number
-exported number-of (accepted a) = number-of a
 
 -- ---- The verdict.
 
@@ -38,24 +34,18 @@ codeOf xs = cond (eqb (getD xs 0 0) 9) (100 + getD xs 1 0) (getD xs 0 0)
 
 -- ---- The question.
 
--- What the call returns: 0, or 100 plus the refusal's number.
-abbrev pub returned : Checked Reply → ℕ
-returned r = exported (λ a. 0) r
+-- The code of a reply's outcome.
+abbrev pub replyCode : Reply → ℕ
+replyCode a = code (outcomeOf a)
 
 -- The four numbers of an answer: what the cell of the pair holds, the named variable and the named position (both 0 if none is named), the count
--- of decided cells. A refusal leaves what stood there.
-abbrev pub reported : List ℕ → Checked Reply → List ℕ
-reported before (refused number line) = before
-reported before (accepted (reply o (A at p) count)) = code o ∷ A ∷ p ∷ count ∷ []
+-- of decided cells.
+abbrev pub questionNumbers : Reply → List ℕ
+questionNumbers (reply o (A at p) count) = code o ∷ A ∷ p ∷ count ∷ []
 
 -- The call's promise: that of the question, with its answer in these numbers.
 pub record QuestionNumbers (sheet input : List ℕ) (A p : ℕ) (table table′ work work′ answer answer′ : List ℕ) (r : ℕ) : Type 0 where
   pub found : Answer
   pub promise : QuestionPromise sheet input A p table table′ work work′ found
   pub returns : r ≡ returned (told found)
-  pub reports : answer′ ≡ reported answer (told found)
-
--- The numbers of an answer fit 32 bits.
-abbrev pub Fits : Checked Reply → Type 0
-Fits (refused number line) = number ≤ 11
-Fits (accepted a) = code (outcomeOf a) ≤ 4101
+  pub reports : answer′ ≡ reported questionNumbers answer (told found)

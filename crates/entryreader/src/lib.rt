@@ -1,9 +1,10 @@
 // The calls for programs in other languages.
 ghost use Prim.Native.Nat.{_≤_};
 ghost use mathlib.Core.Path.{_≡_};
+ghost use Rattle.schema.specs.Exported.{returned, reported, Fits};
 ghost use Rattle.walk.specs.Reply.{told};
 ghost use Rattle.memo.specs.Verdict.{numbers};
-ghost use Rattle.entryreader.specs.Codes.{codeOf, VerdictCode, returned, reported, Fits, QuestionNumbers};
+ghost use Rattle.entryreader.specs.Codes.{codeOf, VerdictCode, replyCode, questionNumbers, QuestionNumbers};
 use cells::Cell;
 use memo::Judgement;
 use walk::Answer;
@@ -36,9 +37,9 @@ pub extern "C" fn entryreader_verdict(sheet: &[u8], input: &[u8]) -> u32
 
 // Stores the four numbers of an answer, and returns 0; or 100 plus the number of a refusal.
 fn report(answer: Answer, out: &mut [u32; 4]) -> u32
-    requires { ⌜ Fits (told answer) ⌝ }
+    requires { ⌜ Fits replyCode (told answer) ⌝ }
     ensures returns { λ r. ⌜ r ≡ returned (told answer) ⌝ }
-    ensures reports { λ _. ⌜ now (out .exit) ≡ reported (now (out .entry)) (told answer) ⌝ }
+    ensures reports { λ _. ⌜ now (out .exit) ≡ reported questionNumbers (now (out .entry)) (told answer) ⌝ }
 {
     let four = match answer {
         Answer::Success(end, count) => [Cell::SUCCESS.0 + end, 0, 0, count],

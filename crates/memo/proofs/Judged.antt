@@ -3,7 +3,6 @@ use mathlib.Core.Path.{_≡_, sym, ap, _∙_, subst}
 use mathlib.Core.Bool.{Bool, true, false, cond, not, _||_}
 use mathlib.Core.List.{List}
 use Prim.Native.Nat.{ℕ, _≤_}
-use native.Mathlib.Omega.{arith}
 use lib.Dec.{ltb}
 use lib.ListN.{length}
 use Rattle.grammar.specs.Refusal.{Checked, refused, accepted}
@@ -13,13 +12,13 @@ use Rattle.grammar.specs.Words.{ruleIn}
 use Rattle.grammar.specs.declared.sheet.Grammar.{Grammar as Line}
 use Rattle.grammar.specs.declared.sheet.Sheet.{Sheet}
 use Rattle.grammar.specs.declared.sheet.Sheet.the-variants.{Read, Refused}
-use Rattle.grammar.proofs.Accepted.{grammar-in-range}
 use Rattle.grammar.proofs.Held.{rules-held}
 use Rattle.grammar.proofs.Told.{Reads, told-refused, told-read}
 use Rattle.schema.specs.Derivation.{_at_}
 use Rattle.schema.specs.Handed.{handed, verdictOf}
 use Rattle.schema.specs.Table.{Within, cells}
 use Rattle.schema.specs.Verdict.{closedBy}
+use Rattle.schema.proofs.SheetClosed.{start-within}
 use Rattle.schema.proofs.Tested.{handed-refused, verdict-by}
 use Rattle.walk.specs.Reply.{Reply}
 use Rattle.memo.specs.Answer.{Says}
@@ -61,10 +60,8 @@ module _ {s before after : List ℕ} {r : Sheet} (promise : SheetPromise s befor
       -- What asking is handed.
       pub ask-ready : length input ≤ 4096 → c ≡ false → AskReady (ruleIn after) input (l .variables) (l .start) 0 table work
       ask-ready short h =
-          let b = grammar-in-range s (read .grammar) (read .accepts) in
-          let w : Within (read .grammar .variables) (length input) (read .grammar .start) 0 = record { low = b .2; high = b .3; position = omega arith } in
           ready s (read .grammar) (read .accepts) (read .variables-are) rules-are input table work (l .start) 0 short
-          (subst (λ (A : ℕ). Within (read .grammar .variables) (length input) A 0) (read .start-is) w) (sym small ∙ h)
+          (subst (λ (A : ℕ). Within (read .grammar .variables) (length input) A 0) (read .start-is) (start-within s (read .grammar) (read .accepts))) (sym small ∙ h)
 
       -- The verdict.
       pub judges : {table′ work′ numbers : List ℕ} {t : Checked Reply} → a ≡ false → b ≡ true → c ≡ false

@@ -3,14 +3,13 @@ use mathlib.Core.Path.{_≡_, refl, sym, ap, _∙_, subst}
 use mathlib.Core.Logic.{_↔_}
 use mathlib.Core.List.{List, [], _∷_, List·Memᴰ}
 use Prim.Native.Nat.{ℕ, _≤_}
-use native.Mathlib.Omega.{arith}
 use lib.ListN.{length}
 use borrow.Author.Tests.{le-ltb}
 use Rattle.columns.specs.Column.{leading, column, row, digitsAfter, number, field, fields}
 use Rattle.grammar.specs.Refusal.{Checked, refused, accepted}
 use Rattle.grammar.specs.Sheet.{Grammar, grammarOf, lineAt}
 use Rattle.grammar.specs.Printing.{text}
-use Rattle.grammar.proofs.Accepted.{describes, grammar-in-range}
+use Rattle.grammar.proofs.Accepted.{describes}
 use Rattle.schema.specs.Cases.{Case, cases, sheetH, header, firstPair}
 use Rattle.schema.specs.Derivation.{_at_, success, Outcome, result, loop, Has}
 use Rattle.schema.specs.Handed.{Handed, handed, questionOf, verdictOf}
@@ -20,6 +19,7 @@ use Rattle.schema.proofs.Cases.{cases-hold}
 use Rattle.schema.proofs.Handed.{handed-sheet, handed-pair, handed-slices}
 use Rattle.schema.proofs.Tested.{question-follows}
 use Rattle.rules.proofs.Admitted.{question-accepted}
+use Rattle.schema.proofs.SheetClosed.{start-within}
 use Rattle.walk.specs.Reply.{Reply, reply, outcomeOf, countOf, told}
 use Rattle.memo.specs.Answer.{Says, Replies, QuestionPromise}
 use Rattle.memo.specs.Verdict.{numbers, judged, Judges, VerdictPromise}
@@ -131,9 +131,6 @@ module _ (s input table work : List ℕ) where
   asked = verdictOf input (length table) (length work)
 
   module _ (g : Grammar) (accepts : handed s (verdictOf input (length table) (length work)) ≡ accepted g) where
-    start-within : Within (g .variables) (length input) (g .start) 0
-    start-within = let b = grammar-in-range s g (handed-sheet s asked g accepts) in record { low = b .2; high = b .3; position = omega arith }
-
     table-room : cells (g .variables) (length input) ≤ length table
     table-room = handed-slices s asked g accepts (length table) (length work) refl .0
 
@@ -146,8 +143,8 @@ module _ (s input table work : List ℕ) where
         let a = j .2 in (
           a .0,
           j .1 ∙ ap (judged (length input)) (a .1),
-          count-is s asked g accepts (g .start at 0) start-within table-room (a .2),
-          outcome-is s asked g accepts (g .start at 0) start-within table-room (a .2),
+          count-is s asked g accepts (g .start at 0) (start-within s g (handed-sheet s asked g accepts)) table-room (a .2),
+          outcome-is s asked g accepts (g .start at 0) (start-within s g (handed-sheet s asked g accepts)) table-room (a .2),
         )
 
   -- One verdict only: the same numbers and the same table.
@@ -161,7 +158,7 @@ module _ (s input table work : List ℕ) where
       by-sheet (accepted g) e m k =
           let a = m .2 in
           let b = k .2 in
-          let same = one-answer s asked g e (g .start at 0) (start-within g e) (table-room g e) (a .2) (b .2) in (
+          let same = one-answer s asked g e (g .start at 0) (start-within s g (handed-sheet s asked g e)) (table-room g e) (a .2) (b .2) in (
             m .1 ∙ ap (judged (length input)) (a .1 ∙ ap accepted same ∙ sym (b .1)) ∙ sym (k .1),
-            one-table s asked g e (g .start at 0) (start-within g e) (table-room g e) (a .2) (b .2),
+            one-table s asked g e (g .start at 0) (start-within s g (handed-sheet s asked g e)) (table-room g e) (a .2) (b .2),
           )

@@ -11,15 +11,11 @@ use Rattle.grammar.proofs.Accepted.{grammar-in-range}
 use Rattle.grammar.proofs.Refusals.{accepted-clear}
 use Rattle.schema.specs.Derivation.{_at_}
 use Rattle.schema.specs.Handed.{callCondition, callOrder, handed, verdictOf, writerOf}
-use Rattle.schema.specs.Table.{Within, cells}
+use Rattle.schema.specs.Table.{cells}
 use Rattle.schema.proofs.Tested.{handed-then}
 use Rattle.schema.proofs.Handed.{handed-sheet, handed-input, handed-slices}
 
 module _ (s input : List ℕ) (g : Grammar) (e : handed s (verdictOf input 1024 1024) ≡ accepted g) where
-  -- The start variable at 0 is a pair.
-  pub start-within : Within (g .variables) (length input) (g .start) 0
-  start-within = let b = grammar-in-range s g (handed-sheet s _ g e) in record { low = b .2; high = b .3; position = omega arith }
-
   -- 1,024 lines fit in an output of 50,176 bytes.
   pub writer-accepted : (k : ℕ) → 50176 ≤ k → handed s (writerOf input (g .start at 0) 1024 1024 k) ≡ accepted g
   unfolding callCondition

@@ -20,7 +20,8 @@ use Rattle.schema.specs.Line.{linesBytes}
 use Rattle.schema.specs.Verdict.{verdictCode}
 use Rattle.schema.proofs.CallRefusals.{call-refused}
 use Rattle.schema.proofs.Laws.{has-one}
-use Rattle.schema.proofs.Small.{refusal-small, refusal-line, verdict-code-small}
+use Rattle.schema.proofs.Codes.{verdict-code-most}
+use Rattle.schema.proofs.Small.{refusal-small, refusal-line}
 use Rattle.rules.proofs.Admitted.{question-accepted}
 use Rattle.walk.specs.Reply.{reply}
 use Rattle.memo.specs.Verdict.{positionFor, judged}
@@ -83,7 +84,7 @@ module _ (s input out out′ : List ℕ) (r : ℕ) (promise : OutputPromise s in
     accepted-reads g e xs f =
         let p = printing (accepted g) e in
         let c = verdictCode (length input) (p .outcome) in
-        let small = verdict-code-small (length input) (p .outcome) in
+        let small = verdict-code-most (length input) (p .outcome) in
         let h = code-first (length input) (p .outcome) (p .named) (p .count) in
         let behind = drop (length (puts .0)) out in
         let whole : out′ ≡ column 8 c ++ (h .0 ++ (linesBytes (p .lines) ++ behind)) =

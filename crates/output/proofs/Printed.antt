@@ -12,21 +12,22 @@ use Rattle.schema.specs.Derivation.{Pair, _at_, Outcome, Has}
 use Rattle.schema.specs.Handed.{handed, verdictOf, writerOf}
 use Rattle.schema.specs.Line.{linesBytes}
 use Rattle.schema.specs.Reached.{Reached, Number}
+use Rattle.schema.proofs.Codes.{verdict-code-most}
 use Rattle.schema.proofs.Handed.{handed-sheet, handed-slices}
 use Rattle.schema.proofs.Laws.{has-one}
 use Rattle.schema.proofs.LineLength.{lines-length}
-use Rattle.schema.proofs.Small.{verdict-code-small}
+use Rattle.schema.proofs.SheetClosed.{start-within}
 use Rattle.walk.specs.Reply.{reply, outcomeOf, countOf, told}
 use Rattle.memo.specs.Verdict.{numbers, judged, Judges, VerdictPromise}
 use Rattle.writer.specs.Writer.{Lines, Writes, SaysWriting, RepliesWriting}
 use Rattle.memo.specs.declared.Judgement.{Judgement}
 use Rattle.memo.proofs.Result.{count-is}
 use Rattle.output.specs.Output.{Printing, Writing, Certificate}
-use Rattle.output.proofs.Accepting.{start-within, writer-accepted}
+use Rattle.output.proofs.Accepting.{writer-accepted}
 
 -- The code of an answer is not that of a refusal.
 not-refused : (n : ℕ) (o : Outcome) (z : Pair) (count : ℕ) → getD (judged n (accepted (reply o z count))) 0 0 ≢ 9
-not-refused n o (A at p) count e = let m = verdict-code-small n o in omega arith
+not-refused n o (A at p) count e = let k = verdict-code-most n o in omega arith
 
 -- What the writer wrote, by the outcome of the start variable.
 module _ (s input : List ℕ) (tables works : ℕ) (tables-are : tables ≡ 1024) (works-are : works ≡ 1024) (o o′ : List ℕ) (count : ℕ) (room : 50176 ≤ length o)
@@ -103,7 +104,7 @@ module _ (s input table table′ work work′ : List ℕ) (j : Judgement) (e : l
           has = a .has;
           names = a .names;
           counts = subst (Number (Reached (g .rule) input (g .start at 0))) (ap countOf (a .says))
-              (count-is s (verdictOf input 1024 1024) g h (g .start at 0) (start-within s input g h) (rw e (handed-slices s _ g h 1024 1024 refl .0)) a);
+              (count-is s (verdictOf input 1024 1024) g h (g .start at 0) (start-within s g (handed-sheet s _ g h)) (rw e (handed-slices s _ g h 1024 1024 refl .0)) a);
           ordered = u .ordered;
           says = ap (λ (xs : List ℕ). row 8 xs ++ linesBytes (u .lines)) same;
         };

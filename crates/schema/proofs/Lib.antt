@@ -1,4 +1,5 @@
 -- What the definitions of the schema give.
+pub mod AfterFirst
 pub mod Cells
 pub mod Codes
 pub mod System
@@ -17,6 +18,7 @@ pub mod ClosedBy
 pub mod Tested
 pub mod SheetClosed
 pub mod LineLength
+pub mod Lines
 pub mod Small
 pub mod Eval
 pub mod Cases

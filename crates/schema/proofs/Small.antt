@@ -1,10 +1,9 @@
 -- The numbers and lines of refusals and the codes of outcomes are small. Assumes nothing.
-use mathlib.Core.Bool.{Bool, true, false, cond}
+use mathlib.Core.Bool.{Bool, true, false}
 use mathlib.Core.List.{List, [], _∷_, _++_}
 use mathlib.Core.Path.{_≡_, refl, subst}
 use Prim.Native.Nat.{ℕ, zero, suc, _+_, _-_, _≤_}
 use native.Mathlib.Omega.{arith}
-use lib.Dec.{eqb}
 use lib.ListN.{length}
 use Rattle.grammar.specs.Refusal.{refused, checked}
 use Rattle.grammar.specs.Rule.{Rule}
@@ -14,7 +13,6 @@ use Rattle.grammar.proofs.Whole.{lines-whole}
 use Rattle.schema.specs.Derivation.{_at_, success, failure, missing, end, Outcome, result, stopped, loop, Has}
 use Rattle.schema.specs.Handed.{Handed, handedCondition, callOrder, handedOrder, handed}
 use Rattle.schema.specs.Table.{code}
-use Rattle.schema.specs.Verdict.{verdictCode}
 use Rattle.schema.proofs.CallRefusals.{call-refused, call-numbers}
 use Rattle.schema.proofs.Ends.{derives-ends}
 use Rattle.schema.proofs.Tested.{handed-refused}
@@ -62,18 +60,6 @@ refusal-line s h x l e = by-lines (notLines s) refl
     by-lines false q =
         let f = call-refused s h x l .0 e in
         most-at 257 (f .before) (f .after) x l (subst (LinesMost 257) (f .order) (call-lines s (lines-whole s q .few-lines)))
-
--- The code of a verdict is at most 5.
-pub verdict-code-small : (n : ℕ) (o : Outcome) → verdictCode n o ≤ 5
-verdict-code-small n (result (success q)) = by-test (eqb q n)
-  where
-    by-test : (t : Bool) → cond t 0 5 ≤ 5
-    by-test true = omega arith
-    by-test false = omega arith
-verdict-code-small n (result failure) = omega arith
-verdict-code-small n (stopped missing) = omega arith
-verdict-code-small n (stopped end) = omega arith
-verdict-code-small n loop = omega arith
 
 -- The code of an outcome on up to 4,096 bytes.
 pub code-small : (rule : ℕ → Rule) (s : List ℕ) (A p : ℕ) (o : Outcome) → p ≤ length s → length s ≤ 4096 → Has rule s (A at p) o → code o ≤ 4101

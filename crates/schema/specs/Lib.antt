@@ -9,3 +9,4 @@ pub mod Handed
 pub mod Cases
 pub mod Line
 pub mod Closed
+pub mod Exported

@@ -10,8 +10,9 @@ use Rattle.grammar.specs.Refusal.{Checked, refused, accepted}
 use Rattle.grammar.specs.Sheet.{Grammar}
 use Rattle.grammar.proofs.Refusals.{refused-each}
 use Rattle.schema.specs.Derivation.{Pair, _at_, Result, success, failure, Outcome, result, Has}
+use Rattle.schema.specs.Exported.{returned, reported, Fits}
 use Rattle.schema.specs.Handed.{Handed, asked, handed, writerOf}
-use Rattle.schema.specs.Machine.{RunOutcome, says, spent, noFrame, Ran, ran}
+use Rattle.schema.specs.Machine.{says, spent, noFrame, Ran, ran}
 use Rattle.schema.specs.Table.{code}
 use Rattle.schema.proofs.Handed.{handed-input, handed-pair}
 use Rattle.schema.proofs.Small.{refusal-small, code-small}
@@ -26,7 +27,7 @@ use Rattle.checker.specs.Proper.{claimed}
 use Rattle.checker.specs.declared.Claim.{Claim}
 use Rattle.checker.proofs.Call as checker
 use Rattle.checker.proofs.CheckRefusals.{check-numbers as refusal-numbers}
-use Rattle.test_calls.specs.Numbers.{returned, reported, Fits, ranCode, replyCode, claimCode, claimNumbers, CheckNumbers}
+use Rattle.test_calls.specs.Numbers.{ranCode, replyCode, claimCode, claimNumbers, CheckNumbers}
 
 -- The code of an outcome that the pair of an accepted question has.
 accepted-code : (s : List ℕ) (h : Handed) (g : Grammar) (A p : ℕ) → handed s h ≡ accepted g → h .pair ≡ some (A at p)

@@ -1,9 +1,9 @@
 -- The numbers that the exported calls of machine, writer and checker hand over. Assumes nothing.
 use mathlib.Core.List.{List, [], _∷_}
 use mathlib.Core.Path.{_≡_}
-use Prim.Native.Nat.{ℕ, _+_, _≤_}
-use Rattle.grammar.specs.Refusal.{Checked, refused, accepted}
+use Prim.Native.Nat.{ℕ}
 use Rattle.schema.specs.Derivation.{_at_, success, failure, Outcome, result, stopped, loop}
+use Rattle.schema.specs.Exported.{returned, reported}
 use Rattle.schema.specs.Machine.{RunOutcome, says, spent, noFrame, Ran, ran}
 use Rattle.schema.specs.Table.{code}
 use Rattle.walk.specs.Reply.{Reply, reply, outcomeOf, told}
@@ -12,21 +12,6 @@ use Rattle.writer.specs.declared.Written.{Written}
 use Rattle.backtrack.specs.Run.{told as ended, Runs}
 use Rattle.backtrack.specs.declared.Ending.{Ending}
 use Rattle.checker.specs.Checker.{Claimed, succeeds, fails, check}
-
--- What a call returns: 0, or 100 plus the refusal's number.
-abbrev pub returned : {A : Type 0} → Checked A → ℕ
-returned (refused number line) = 100 + number
-returned (accepted a) = 0
-
--- What stands in the answer afterwards: the numbers of what is accepted. A refusal leaves what stood there.
-abbrev pub reported : {A : Type 0} → (A → List ℕ) → List ℕ → Checked A → List ℕ
-reported numbers before (refused number line) = before
-reported numbers before (accepted a) = numbers a
-
--- The numbers fit 32 bits: refusals go up to 14, codes up to 10,001.
-abbrev pub Fits : {A : Type 0} → (A → ℕ) → Checked A → Type 0
-Fits code-of (refused number line) = number ≤ 14
-Fits code-of (accepted a) = code-of a ≤ 10001
 
 -- ---- The machine.
 

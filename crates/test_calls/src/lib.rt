@@ -1,10 +1,11 @@
 // The machine, the writer and the checker for tests and benchmarks in other languages.
 // Each call returns 0 with its numbers in `answer`, or 100 plus the number of a refusal, with everything lent to it unchanged.
 ghost use mathlib.Core.Path.{_≡_};
+ghost use Rattle.schema.specs.Exported.{returned, reported, Fits};
 ghost use Rattle.walk.specs.Reply.{told};
 ghost use Rattle.backtrack.specs.Run.{told as ended};
 ghost use Rattle.checker.specs.Checker.{told as claimed};
-ghost use Rattle.test_calls.specs.Numbers.{returned, reported, Fits, ranCode, runNumbers, RunNumbers, replyCode, writerNumbers, WriterNumbers, claimCode, claimNumbers, CheckNumbers};
+ghost use Rattle.test_calls.specs.Numbers.{ranCode, runNumbers, RunNumbers, replyCode, writerNumbers, WriterNumbers, claimCode, claimNumbers, CheckNumbers};
 use backtrack::Ending;
 use cells::Cell;
 use checker::Claim;

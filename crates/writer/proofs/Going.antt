@@ -24,7 +24,8 @@ use Rattle.writer.specs.declared.Step.the-variants as step
 use Rattle.writer.specs.Writer.{Unwritten, Visits, passed, leaf, node}
 use Rattle.writer.specs.Writing.{numberOf, link, noLink, Lower, to-first, to-second, Own, of-leaf, of-calls, pairAt, StepReady, Descends, Lays, Returns, Steps, WriteReady, WriteEnds}
 use Rattle.writer.proofs.Known.{Known, first-known, second-known, tells, told-derives, lower-known}
-use Rattle.writer.proofs.Lines.{stands-none, line-laid, laid-length}
+use Rattle.schema.proofs.Lines.{stands-none}
+use Rattle.writer.proofs.Lines.{line-laid, laid-length}
 use Rattle.writer.proofs.Marked.{toDo, linked-less, noted-less, first-due, known-within, Chain, asked, called, chain-known, chain-odd, not-in, chain-set, link-pair, Noted, alike, unwritten, lined, noted-down, noted-line}
 use Rattle.writer.proofs.Visiting.{Alike, Below, first-below, second-below, joined}
 

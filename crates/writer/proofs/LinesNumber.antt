@@ -15,7 +15,7 @@ use Rattle.schema.specs.Line.{Line, lineOf, Stands}
 use Rattle.schema.specs.Reached.{Reached, itself, first-of, second-of, Number}
 use Rattle.schema.proofs.Laws.{derives-one, number-one}
 use Rattle.writer.specs.Writer.{Unwritten, Visits, passed, leaf, node}
-use Rattle.writer.proofs.Lines.{stands-none, stands-before, stands-last, stands-cases}
+use Rattle.schema.proofs.Lines.{stands-none, stands-before, stands-last, stands-cases}
 use Rattle.writer.proofs.Visiting.{calls-one, visit-keeps, visit-stands}
 use Rattle.writer.proofs.WriterLaws.{Right, visit-right}
 

@@ -25,7 +25,7 @@ use Rattle.cells.specs.Packed.{packed}
 use Rattle.writer.specs.Writer.{Unwritten}
 use Rattle.writer.specs.Writing.{numberOf, link, noLink}
 use Rattle.writer.proofs.Known.{Known, apart}
-use Rattle.writer.proofs.Lines.{stands-before, stands-last, stands-cases}
+use Rattle.schema.proofs.Lines.{stands-before, stands-last, stands-cases}
 use Rattle.writer.proofs.Visiting.{Alike}
 
 -- ---- What is left to do: two steps for a cell that holds 0, one for a link, none for a line's number.

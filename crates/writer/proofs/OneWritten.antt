@@ -17,7 +17,7 @@ use Rattle.walk.specs.Reply.{outcomeOf, told}
 use Rattle.memo.proofs.Result.{one-answer, one-table}
 use Rattle.writer.specs.Writer.{Unwritten, Visits, passed, leaf, node, Lines, Writes, RepliesWriting, WriterPromise}
 use Rattle.writer.specs.declared.Written.{Written}
-use Rattle.writer.proofs.Lines.{stands-none, stands-cases}
+use Rattle.schema.proofs.Lines.{stands-none, stands-cases}
 use Rattle.writer.proofs.Visiting.{Alike, calls-one}
 use Rattle.writer.proofs.WriterLaws.{Right, visit-right}
 use Rattle.writer.proofs.LinesNumber.{node-unwritten}

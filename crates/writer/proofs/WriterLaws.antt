@@ -17,7 +17,7 @@ use Rattle.schema.proofs.Laws.{has-one}
 use Rattle.step.specs.Codes.{Ends}
 use Rattle.writer.specs.Writer.{Unwritten, Visits, passed, leaf, node}
 use Rattle.step.proofs.Within.{second-within}
-use Rattle.writer.proofs.Lines.{stands-none, stands-last, stands-cases}
+use Rattle.schema.proofs.Lines.{stands-none, stands-last, stands-cases}
 use Rattle.writer.proofs.Visiting.{visit-keeps}
 
 -- An end within lies within the input.
