@@ -23,13 +23,13 @@
 mod calls;
 pub mod test_calls;
 
-/// A variable and a place.
+/// A variable and a position.
 #[derive(Clone, Copy, Debug, PartialEq, Eq, Hash)]
 pub struct Pair {
     /// From 1 to V.
     pub variable: u32,
     /// From 0 to the entry's length.
-    pub place: u32,
+    pub position: u32,
 }
 
 /// Why a call is refused.
@@ -51,7 +51,7 @@ pub enum Refusal {
     Endmarker,
     /// 8: the variable asked for is not in 1 to V.
     Variable,
-    /// 9: the place asked for is above the entry's length.
+    /// 9: the position asked for is above the entry's length.
     Place,
     /// 10: the table or the work slice has fewer than V times (n + 1) numbers.
     Room,
@@ -101,7 +101,7 @@ pub enum Verdict {
 pub enum Answer {
     /// Success.
     Success {
-        /// The place where it ends.
+        /// The position where it ends.
         end: u32,
         /// Decided cells.
         cells: u32,
@@ -155,7 +155,7 @@ pub fn verdict(sheet: &[u8], entry: &[u8]) -> Verdict {
     }
 }
 
-/// The outcome of a variable at a place of an entry, over a lent table and a lent work slice of V times (n + 1) numbers or more.
+/// The outcome of a variable at a position of an entry, over a lent table and a lent work slice of V times (n + 1) numbers or more.
 ///
 /// Afterwards the cell of variable A at p, number (A - 1) times (n + 1) plus p, holds 0 if its pair is not reached, 1 for failure, 2 for loop,
 /// 3 for missing, 4 for end, 5 + q for success ending at q. Later cells are unchanged, and so are later numbers of the work slice.
@@ -163,17 +163,17 @@ pub fn question(
     sheet: &[u8],
     entry: &[u8],
     variable: u32,
-    place: u32,
+    position: u32,
     table: &mut [u32],
     work: &mut [u32],
 ) -> Answer {
     let mut numbers = [0; 4];
-    let code = calls::question(sheet, entry, variable, place, table, work, &mut numbers);
+    let code = calls::question(sheet, entry, variable, position, table, work, &mut numbers);
     if code != 0 {
         return Answer::Refused(refusal(code));
     }
-    let [cell, variable, place, cells] = numbers;
-    let named = Pair { variable, place };
+    let [cell, variable, position, cells] = numbers;
+    let named = Pair { variable, position };
     match cell {
         0 => panic!("the cell of an answered question is blank"),
         1 => Answer::Failure { cells },

@@ -21,12 +21,15 @@ fn with_deep_stack(test: fn()) {
 }
 
 /// A question about variable 1.
-fn case(sheet: &str, entry: &[u8], place: u32) -> Case {
+fn case(sheet: &str, entry: &[u8], position: u32) -> Case {
     let variables: usize = sheet[..5].trim().parse().expect("line 1 has V");
     Case {
         sheet: sheet.as_bytes().to_vec(),
         entry: entry.to_vec(),
-        asked: Pair { variable: 1, place },
+        asked: Pair {
+            variable: 1,
+            position,
+        },
         cells: variables * (entry.len() + 1),
     }
 }
@@ -204,9 +207,9 @@ fn long_entries() {
             let sheet = questions::sheet(random, variables);
             let length = random.index(4100);
             let entry = questions::entry(random, length);
-            let place = random.below(20) as u32;
+            let position = random.below(20) as u32;
             let sheet = String::from_utf8(sheet).expect("a sheet is ASCII");
-            comparison.all(&case(&sheet, &entry, place));
+            comparison.all(&case(&sheet, &entry, position));
         }
     });
 }

@@ -31,11 +31,11 @@ const J: &str = "    2    1   46    0    0
     1    4    2    2    2
 ";
 
-fn pair(variable: u32, place: u32) -> Pair {
-    Pair { variable, place }
+fn pair(variable: u32, position: u32) -> Pair {
+    Pair { variable, position }
 }
 
-/// The answer about variable 1 at place 0.
+/// The answer about variable 1 at position 0.
 fn ask(sheet: &str, entry: &str) -> Answer {
     let (mut table, mut work) = ([7; 1024], [7; 1024]);
     question(

@@ -19,14 +19,14 @@ fn question_refused(
     sheet: &[u8],
     entry: &[u8],
     variable: u32,
-    place: u32,
+    position: u32,
     table: usize,
     work: usize,
     number: u32,
 ) {
     let refusal = Refusal::from_number(number).unwrap();
     let (mut table, mut work) = (vec![7; table], vec![9; work]);
-    let answer = question(sheet, entry, variable, place, &mut table, &mut work);
+    let answer = question(sheet, entry, variable, position, &mut table, &mut work);
     assert_eq!(
         answer,
         Answer::Refused(refusal),
@@ -36,7 +36,7 @@ fn question_refused(
     assert!(table.iter().all(|x| *x == 7) && work.iter().all(|x| *x == 9));
 }
 
-/// The good sheet with one line in the place of another, counted from 1.
+/// The good sheet with one line in the position of another, counted from 1.
 fn with_line(number: usize, line: &str) -> Vec<u8> {
     let mut lines: Vec<&str> = GOOD.lines().collect();
     lines[number - 1] = line;
@@ -141,8 +141,8 @@ fn eight_and_nine() {
     for variable in [0, 3, u32::MAX] {
         question_refused(GOOD.as_bytes(), b"aa", variable, 3, 0, 0, 8);
     }
-    for place in [3, 4097, u32::MAX] {
-        question_refused(GOOD.as_bytes(), b"aa", 2, place, 0, 0, 9);
+    for position in [3, 4097, u32::MAX] {
+        question_refused(GOOD.as_bytes(), b"aa", 2, position, 0, 0, 9);
     }
 }
 

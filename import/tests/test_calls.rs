@@ -34,10 +34,10 @@ const READING: &[u8] = b"       2       0       0       1       0       0
 
 const ASKED: Pair = Pair {
     variable: 1,
-    place: 0,
+    position: 0,
 };
 
-/// The machine on variable 1 at place 0, with so many frames.
+/// The machine on variable 1 at position 0, with so many frames.
 fn run(sheet: &[u8], entry: &[u8], room: usize, budget: u32) -> [u32; 3] {
     let mut frames = vec![7; 3 * room];
     let mut answer = [9; 3];
@@ -66,7 +66,7 @@ fn machine() {
     assert_eq!(run(J, b"", 0, 100), [test_calls::NO_FRAME, 0, 0]);
 }
 
-/// The writer on variable 1 at place 0, over slices that are just long enough.
+/// The writer on variable 1 at position 0, over slices that are just long enough.
 fn write(sheet: &[u8], entry: &[u8], cells: usize) -> ([u32; 5], Vec<u8>) {
     let (mut table, mut work) = (vec![7; cells], vec![7; cells]);
     let mut output = vec![7; 49 * cells];
@@ -124,8 +124,8 @@ fn eleven_output() {
     }
 }
 
-fn check(variable: u32, place: u32, reading: &[u8]) -> Result<[u32; 2], u32> {
-    let asked = Pair { variable, place };
+fn check(variable: u32, position: u32, reading: &[u8]) -> Result<[u32; 2], u32> {
+    let asked = Pair { variable, position };
     let mut answer = [9; 2];
     match test_calls::check(H, b"-6.", asked, reading, &mut answer) {
         0 => Ok(answer),

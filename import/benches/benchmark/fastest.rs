@@ -111,27 +111,27 @@ fn read(text: &[u8]) -> Option<(u32, [u32; 256])> {
 
 /// A cell's code, 3 and 4 for missing and end.
 #[inline(always)]
-unsafe fn leaf(word: u32, entry: &[u8], place: u32) -> u32 {
+unsafe fn leaf(word: u32, entry: &[u8], position: u32) -> u32 {
     let kind = word >> 24;
     if kind == 3 || kind == 4 {
-        if place as usize >= entry.len() {
+        if position as usize >= entry.len() {
             return 4;
         }
-        // SAFETY: the place is below the length.
-        let byte = unsafe { *entry.get_unchecked(place as usize) };
+        // SAFETY: the position is below the length.
+        let byte = unsafe { *entry.get_unchecked(position as usize) };
         let seen = if kind == 4 {
             CLASSES[byte as usize]
         } else {
             byte
         };
         return if u32::from(seen) == (word >> 16 & 255) {
-            6 + place
+            6 + position
         } else {
             1
         };
     }
     match kind {
-        1 => 5 + place,
+        1 => 5 + position,
         2 => 1,
         _ => 3,
     }
@@ -141,8 +141,8 @@ unsafe fn leaf(word: u32, entry: &[u8], place: u32) -> u32 {
 macro_rules! look_up {
     ($walk:lifetime, $state:expr, $called:expr) => {{
         let (words, entry, table, work, width, top, depth, count) = $state;
-        let (variable, place): (u32, u32) = $called;
-        let index = variable as usize * width + place as usize;
+        let (variable, position): (u32, u32) = $called;
+        let index = variable as usize * width + position as usize;
         let mut value = *table.get_unchecked(index);
         if value == 0 {
             *count += 1;
@@ -151,17 +151,17 @@ macro_rules! look_up {
                 *table.get_unchecked_mut(index) = OPEN;
                 *work.get_unchecked_mut(*depth) = top.0 << 13 | top.1;
                 *depth += 1;
-                *top = (variable, place);
+                *top = (variable, position);
                 continue $walk;
             }
-            value = leaf(rule, entry, place);
+            value = leaf(rule, entry, position);
             *table.get_unchecked_mut(index) = value;
             if value == 3 || value == 4 {
-                break $walk (value, (variable + 1, place));
+                break $walk (value, (variable + 1, position));
             }
         }
         if value == OPEN {
-            break $walk (2, (variable + 1, place));
+            break $walk (2, (variable + 1, position));
         }
         value
     }};
@@ -250,10 +250,10 @@ pub fn question(
     assert!(size <= table.len() && size <= work.len());
     table[..size].fill(0);
     let asked = (asked.0 - 1, asked.1);
-    let cell = |(variable, place): (u32, u32)| variable as usize * width + place as usize;
+    let cell = |(variable, position): (u32, u32)| variable as usize * width + position as usize;
     assert!(words[asked.0 as usize] >> 24 == 5, "a rule that calls");
     table[cell(asked)] = OPEN;
-    // SAFETY: variables are below V, places at most the entry's length, and open cells distinct, so that no more than V times (n + 1) callers are noted.
+    // SAFETY: variables are below V, positions at most the entry's length, and open cells distinct, so that no more than V times (n + 1) callers are noted.
     let end = unsafe { walk(&words, entry, asked, table, work) };
     if (2..=4).contains(&end.code) {
         table[cell(end.top)] = end.code;

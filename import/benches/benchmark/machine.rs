@@ -15,11 +15,11 @@ pub fn run(
         return [10_001, 0, 0];
     }
     frames[..3].copy_from_slice(&[asked.0, asked.1, 0]);
-    let (mut flag, mut place, mut moves, mut depth) = (true, asked.1, 0, 1);
+    let (mut flag, mut position, mut moves, mut depth) = (true, asked.1, 0, 1);
     loop {
         if depth == 0 {
             return if flag {
-                [5 + place, place, moves]
+                [5 + position, position, moves]
             } else {
                 [1, 0, moves]
             };
@@ -28,16 +28,16 @@ pub fn run(
         let (start, stage) = (top[1], top[2]);
         let rule = sheet.rules[top[0] as usize - 1];
         let mut pushed = None;
-        let (mut next_flag, mut next_place) = (flag, place);
+        let (mut next_flag, mut next_place) = (flag, position);
         match (stage, rule) {
-            (0, Rule::Calls(b, _, _)) => pushed = Some((1, b, place)),
-            (0, rule) => match plain::leaf(rule, entry, place) {
+            (0, Rule::Calls(b, _, _)) => pushed = Some((1, b, position)),
+            (0, rule) => match plain::leaf(rule, entry, position) {
                 stop @ 3..=4 => return [stop, 0, moves],
                 1 => next_flag = false,
                 code => (next_flag, next_place) = (true, code - 5),
             },
             (1, Rule::Calls(_, c, d)) => {
-                let (variable, at) = if flag { (c, place) } else { (d, start) };
+                let (variable, at) = if flag { (c, position) } else { (d, start) };
                 pushed = Some((2, variable, at));
                 next_flag = true;
             }
@@ -62,7 +62,7 @@ pub fn run(
                 depth += 1;
             }
         }
-        (flag, place) = (next_flag, next_place);
+        (flag, position) = (next_flag, next_place);
         moves += 1;
     }
 }

@@ -20,7 +20,7 @@ use timing::Subject;
 const ASKED: (u32, u32) = (1, 0);
 const PAIR: Pair = Pair {
     variable: 1,
-    place: 0,
+    position: 0,
 };
 
 /// A table and a work slice of the cells that a question needs. They begin half a page apart.
@@ -260,7 +260,7 @@ fn parts_table() {
     }
 }
 
-/// Sheet reading alone: a place beyond the entry is refused once the sheet is read.
+/// Sheet reading alone: a position beyond the entry is refused once the sheet is read.
 fn read_proved(sheet: &[u8]) {
     let code = test_calls::question(sheet, b"", 1, 1, &mut [], &mut [], &mut [0; 4]);
     assert_eq!(code, 109);

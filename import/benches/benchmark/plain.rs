@@ -89,10 +89,10 @@ pub fn read(text: &[u8]) -> Option<Sheet> {
 const OPEN: u32 = u32::MAX;
 
 /// A rule's outcome where it calls nothing: a cell's code, 3 and 4 for missing and end.
-pub fn leaf(rule: Rule, entry: &[u8], place: u32) -> u32 {
-    let fits = |wanted: bool| if wanted { 6 + place } else { 1 };
-    match (rule, entry.get(place as usize)) {
-        (Rule::Always, _) => 5 + place,
+pub fn leaf(rule: Rule, entry: &[u8], position: u32) -> u32 {
+    let fits = |wanted: bool| if wanted { 6 + position } else { 1 };
+    match (rule, entry.get(position as usize)) {
+        (Rule::Always, _) => 5 + position,
         (Rule::Never, _) => 1,
         (Rule::Byte(wanted), Some(byte)) => fits(*byte == wanted),
         (Rule::Class(wanted), Some(byte)) => fits(class(*byte) == wanted),
@@ -109,8 +109,8 @@ struct Table<'a> {
 }
 
 impl Table<'_> {
-    fn index(&self, (variable, place): (u32, u32)) -> usize {
-        (variable as usize - 1) * self.width + place as usize
+    fn index(&self, (variable, position): (u32, u32)) -> usize {
+        (variable as usize - 1) * self.width + position as usize
     }
 
     fn get(&self, pair: (u32, u32)) -> u32 {
@@ -128,11 +128,11 @@ impl Table<'_> {
     }
 
     /// The pair that a pair calls next, and what its cell holds.
-    fn called(&self, place: u32, (b, c, d): (u32, u32, u32)) -> ((u32, u32), u32) {
-        let first = (b, place);
+    fn called(&self, position: u32, (b, c, d): (u32, u32, u32)) -> ((u32, u32), u32) {
+        let first = (b, position);
         let second = match self.get(first) {
             value @ (0 | OPEN) => return (first, value),
-            1 => (d, place),
+            1 => (d, position),
             code => (c, code - 5),
         };
         (second, self.get(second))

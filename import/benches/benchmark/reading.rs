@@ -22,17 +22,17 @@ fn write_line(line: &mut [u8], numbers: [u32; 6]) {
 /// The calls of a pair, by a table of outcomes.
 fn called(
     sheet: &Sheet,
-    (variable, place): (u32, u32),
+    (variable, position): (u32, u32),
     outcome: impl Fn((u32, u32)) -> u32,
 ) -> Option<[(u32, u32); 2]> {
     let Rule::Calls(b, c, d) = sheet.rules[variable as usize - 1] else {
         return None;
     };
-    let second = match outcome((b, place)) {
-        1 => (d, place),
+    let second = match outcome((b, position)) {
+        1 => (d, position),
         code => (c, code - 5),
     };
-    Some([(b, place), second])
+    Some([(b, position), second])
 }
 
 /// The question, then a line for each pair that it reaches, called pairs first; the count of lines.
@@ -50,7 +50,8 @@ pub fn write(
     }
     let sheet = plain::read(text).expect("an accepted sheet");
     let width = entry.len() + 1;
-    let cell = |(variable, place): (u32, u32)| (variable as usize - 1) * width + place as usize;
+    let cell =
+        |(variable, position): (u32, u32)| (variable as usize - 1) * width + position as usize;
     work[..sheet.variables as usize * width].fill(0);
     let mut lines = 0;
     let mut open = vec![asked];

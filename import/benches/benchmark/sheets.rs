@@ -14,7 +14,7 @@ pub fn sheet(rules: &[[u32; 4]]) -> Vec<u8> {
     text.into_bytes()
 }
 
-/// What is asked: variable 1 at place 0.
+/// What is asked: variable 1 at position 0.
 pub struct Question {
     pub name: &'static str,
     pub sheet: Vec<u8>,
@@ -76,7 +76,7 @@ pub fn brackets(n: usize) -> Question {
     }
 }
 
-/// Words that begin with one of many letters: a choice of V / 2 rules at each place, so that the table is wide.
+/// Words that begin with one of many letters: a choice of V / 2 rules at each position, so that the table is wide.
 pub fn wide(variables: u32, n: usize) -> Question {
     let choices = (variables - 6) / 2;
     let mut rules = vec![

@@ -60,7 +60,7 @@ fn names(rules: &mut Rules) -> u32 {
     rules.sequence(&[name, further])
 }
 
-/// What stands behind a comma: an age, parents or husband, a trade or standing, a place.
+/// What stands behind a comma: an age, parents or husband, a trade or standing, a position.
 fn addition(rules: &mut Rules, names: u32) -> u32 {
     let age = age(rules);
     let relation = rules.words(&RELATIONS);
@@ -68,10 +68,10 @@ fn addition(rules: &mut Rules, names: u32) -> u32 {
     let relation = rules.sequence(&[relation, of, names]);
     let standing = rules.words(&STANDINGS);
     let parish = rules.word("this parish");
-    let place = rules.choice(&[parish, names]);
+    let position = rules.choice(&[parish, names]);
     let of = rules.word("of ");
-    let place = rules.sequence(&[of, place]);
-    rules.choice(&[age, relation, standing, place])
+    let position = rules.sequence(&[of, position]);
+    rules.choice(&[age, relation, standing, position])
 }
 
 /// The lines of a register, with a semicolon between them and a full stop at the end.
@@ -134,12 +134,12 @@ fn day(i: usize) -> String {
 
 /// A line of the register.
 fn line(i: usize) -> String {
-    let (man, woman, place) = (one(&MEN, i), one(&WOMEN, i * 3), one(&PLACES, i));
+    let (man, woman, position) = (one(&MEN, i), one(&WOMEN, i * 3), one(&PLACES, i));
     let (surname, standing) = (one(&SURNAMES, i * 3), one(&STANDINGS[..4], i));
     let date = day(i);
     match i % 6 {
         0 => format!(
-            "baptised {date}, {}, son of {man} {surname} and {woman}, of {place}",
+            "baptised {date}, {}, son of {man} {surname} and {woman}, of {position}",
             one(&MEN, i * 2)
         ),
         1 | 4 => format!(
@@ -148,11 +148,11 @@ fn line(i: usize) -> String {
             2 + i % 10
         ),
         3 => format!(
-            "baptised {date}, {}, daughter of {man} {surname} and {woman}, of {place}",
+            "baptised {date}, {}, daughter of {man} {surname} and {woman}, of {position}",
             one(&WOMEN, i * 2)
         ),
         _ => format!(
-            "married {date}, {man} {surname}, {standing}, of {place} and {woman} {}, widow, of Acton",
+            "married {date}, {man} {surname}, {standing}, of {position} and {woman} {}, widow, of Acton",
             one(&SURNAMES, i + 1)
         ),
     }

@@ -69,12 +69,12 @@ fn end(outcome: Outcome) -> u32 {
 fn numbers(found: &Answered) -> [u32; 4] {
     let named = found.named.unwrap_or(Pair {
         variable: 0,
-        place: 0,
+        position: 0,
     });
     [
         code(found.outcome),
         named.variable,
-        named.place,
+        named.position,
         found.cells,
     ]
 }
@@ -108,12 +108,12 @@ fn answer(expected: &Result<Answered, u32>) -> Answer {
 /// The question as the program asks it.
 fn as_program(case: &Case, table: usize, work: usize, expected: &Result<Answered, u32>) {
     let (mut table, mut work) = (vec![7; table], vec![7; work]);
-    let Pair { variable, place } = case.asked;
+    let Pair { variable, position } = case.asked;
     let found = import::question(
         &case.sheet,
         &case.entry,
         variable,
-        place,
+        position,
         &mut table,
         &mut work,
     );
@@ -208,7 +208,7 @@ impl Comparison {
             handed.sheet.slice(),
             handed.entry.slice(),
             case.asked.variable,
-            case.asked.place,
+            case.asked.position,
             room.table.slice(),
             room.work.slice(),
             room.answer.array(),

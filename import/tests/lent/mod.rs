@@ -74,8 +74,8 @@ impl<T: Number> Lent<T> {
 }
 
 impl Lent<u32> {
-    /// Another number at a place of the longer vector.
-    pub fn overwrite(&mut self, place: usize) {
-        self.numbers[place] ^= 1;
+    /// Another number at a position of the longer vector.
+    pub fn overwrite(&mut self, position: usize) {
+        self.numbers[position] ^= 1;
     }
 }

@@ -198,14 +198,14 @@ fn asked(random: &mut Random, variables: u64, length: usize) -> Pair {
         1..33 => 1,
         _ => 1 + random.below(variables),
     };
-    let place = match random.below(40) {
+    let position = match random.below(40) {
         0 => length as u64 + random.pick(&[1, 2, 1 << 31]),
         1..20 => 0,
         _ => random.below(length as u64 + 1),
     };
     Pair {
         variable: variable as u32,
-        place: place as u32,
+        position: position as u32,
     }
 }
 
@@ -243,7 +243,7 @@ fn other_reading(random: &mut Random, case: &Case) -> Vec<Line> {
     let variables = (case.cells / (case.entry.len() + 1)) as u64;
     let asked = Pair {
         variable: 1 + random.below(variables) as u32,
-        place: random.below(case.entry.len() as u64 + 1) as u32,
+        position: random.below(case.entry.len() as u64 + 1) as u32,
     };
     let question = Question {
         asked,

@@ -16,7 +16,7 @@ pub struct Ran {
     pub moves: u32,
 }
 
-/// The flag, true for s, and the place.
+/// The flag, true for s, and the position.
 type Popped = (bool, u32);
 
 struct Machine<'a> {
@@ -48,7 +48,7 @@ impl Machine<'_> {
     fn frame(&mut self, variable: u32, start: u32, frames: usize) -> Result<Popped, Ending> {
         let pair = import::Pair {
             variable,
-            place: start,
+            position: start,
         };
         match self.recognizer.leaf(pair) {
             Some(Outcome::Success(end)) => self.step().map(|()| (true, end)),
@@ -64,15 +64,15 @@ impl Machine<'_> {
             unreachable!("only kind 4 is no leaf");
         };
         self.push(frames)?;
-        let (succeeded, place) = self.frame(*b, start, frames + 1)?;
+        let (succeeded, position) = self.frame(*b, start, frames + 1)?;
         self.push(frames)?;
-        let (flag, place) = if succeeded {
-            self.frame(*c, place, frames + 1)?
+        let (flag, position) = if succeeded {
+            self.frame(*c, position, frames + 1)?
         } else {
             self.frame(*d, start, frames + 1)?
         };
         self.step()?;
-        Ok((flag, if flag { place } else { start }))
+        Ok((flag, if flag { position } else { start }))
     }
 }
 
@@ -89,8 +89,8 @@ pub fn run(question: Question, frames: usize, budget: u32) -> Result<Ran, u32> {
     let ending = if machine.room == 0 {
         Ending::NoFrame
     } else {
-        match machine.frame(asked.variable, asked.place, 1) {
-            Ok((true, place)) => Ending::Outcome(Outcome::Success(place)),
+        match machine.frame(asked.variable, asked.position, 1) {
+            Ok((true, position)) => Ending::Outcome(Outcome::Success(position)),
             Ok((false, _)) => Ending::Outcome(Outcome::Failure),
             Err(ending) => ending,
         }

@@ -149,7 +149,7 @@ impl Question<'_> {
         if self.asked.variable == 0 || self.asked.variable > sheet.variables {
             return Err(8);
         }
-        if self.asked.place as usize > self.entry.len() {
+        if self.asked.position as usize > self.entry.len() {
             return Err(9);
         }
         Ok(sheet)
@@ -178,14 +178,14 @@ impl<'a> Recognizer<'a> {
 
     /// What a rule that calls nothing gives; nothing for a rule of kind 4.
     fn leaf(&self, pair: Pair) -> Option<Outcome> {
-        let one_byte = |fits: &dyn Fn(u8) -> bool| match self.entry.get(pair.place as usize) {
+        let one_byte = |fits: &dyn Fn(u8) -> bool| match self.entry.get(pair.position as usize) {
             None => Outcome::End,
-            Some(byte) if fits(*byte) => Outcome::Success(pair.place + 1),
+            Some(byte) if fits(*byte) => Outcome::Success(pair.position + 1),
             Some(_) => Outcome::Failure,
         };
         match self.sheet.rules.get(&pair.variable) {
             None => Some(Outcome::Missing),
-            Some(Rule::Succeeds) => Some(Outcome::Success(pair.place)),
+            Some(Rule::Succeeds) => Some(Outcome::Success(pair.position)),
             Some(Rule::Fails) => Some(Outcome::Failure),
             Some(Rule::Byte(wanted)) => Some(one_byte(&|byte| byte == *wanted)),
             Some(Rule::Class(wanted)) => Some(one_byte(&|byte| class(byte) == *wanted)),
@@ -209,15 +209,15 @@ impl<'a> Recognizer<'a> {
 
     /// The pairs that a pair calls, B's and then C's or D's, as far as they are reached.
     fn called(&mut self, pair: Pair) -> Vec<Pair> {
-        let place = pair.place;
+        let position = pair.position;
         let Some(Rule::Calls(b, c, d)) = self.sheet.rules.get(&pair.variable).copied() else {
             return Vec::new();
         };
-        let at = |variable, place| Pair { variable, place };
-        let first = at(b, place);
+        let at = |variable, position| Pair { variable, position };
+        let first = at(b, position);
         match self.outcome(first) {
             Outcome::Success(end) => vec![first, at(c, end)],
-            Outcome::Failure => vec![first, at(d, place)],
+            Outcome::Failure => vec![first, at(d, position)],
             _ => vec![first],
         }
     }
@@ -297,7 +297,7 @@ pub fn verdict(sheet: &[u8], entry: &[u8]) -> Result<Verdict, u32> {
     }
     let start = Pair {
         variable: sheet.start,
-        place: 0,
+        position: 0,
     };
     Ok(match Recognizer::new(&sheet, entry).outcome(start) {
         Outcome::Success(end) if end as usize == entry.len() => Verdict::Recognised,
@@ -320,7 +320,7 @@ fn answer(recognizer: &mut Recognizer, asked: Pair, size: usize) -> Answered {
     let width = recognizer.entry.len() + 1;
     let mut table = vec![0; size];
     for pair in reached {
-        table[(pair.variable as usize - 1) * width + pair.place as usize] =
+        table[(pair.variable as usize - 1) * width + pair.position as usize] =
             code(recognizer.outcome(pair));
     }
     Answered {

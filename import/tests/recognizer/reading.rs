@@ -34,10 +34,10 @@ pub fn bytes(lines: &[Line]) -> Vec<u8> {
 fn line_of(pair: Pair, result: Outcome, first: u32, second: u32) -> Line {
     let (flag, end) = match result {
         Outcome::Success(end) => (0, end),
-        Outcome::Failure => (1, pair.place),
+        Outcome::Failure => (1, pair.position),
         _ => unreachable!("a line has a result"),
     };
-    [pair.variable, pair.place, flag, end, first, second]
+    [pair.variable, pair.position, flag, end, first, second]
 }
 
 /// The lines of a reading as they are laid down, and the number of each written pair's line.
@@ -111,7 +111,7 @@ fn parse(bytes: &[u8]) -> Option<Line> {
 fn claim(line: &Line) -> (Pair, Outcome) {
     let pair = Pair {
         variable: line[0],
-        place: line[1],
+        position: line[1],
     };
     match line[2] {
         0 => (pair, Outcome::Success(line[3])),
@@ -128,21 +128,21 @@ fn called(earlier: &[Line], number: u32, pair: Pair) -> Option<Outcome> {
 
 /// The result that the rule of a line's pair and the earlier lines give.
 fn given(sheet: &Sheet, entry: &[u8], earlier: &[Line], line: &Line) -> Option<Outcome> {
-    let [variable, place, _, _, first, second] = *line;
-    if variable == 0 || variable > sheet.variables || place as usize > entry.len() {
+    let [variable, position, _, _, first, second] = *line;
+    if variable == 0 || variable > sheet.variables || position as usize > entry.len() {
         return None;
     }
-    let at = |variable, place| Pair { variable, place };
-    if let Some(leaf) = Recognizer::new(sheet, entry).leaf(at(variable, place)) {
+    let at = |variable, position| Pair { variable, position };
+    if let Some(leaf) = Recognizer::new(sheet, entry).leaf(at(variable, position)) {
         let result = matches!(leaf, Outcome::Success(_) | Outcome::Failure);
         return (result && first == 0 && second == 0).then_some(leaf);
     }
     let Some(Rule::Calls(b, c, d)) = sheet.rules.get(&variable) else {
         unreachable!("only kind 4 is no leaf");
     };
-    match called(earlier, first, at(*b, place))? {
+    match called(earlier, first, at(*b, position))? {
         Outcome::Success(end) => called(earlier, second, at(*c, end)),
-        _ => called(earlier, second, at(*d, place)),
+        _ => called(earlier, second, at(*d, position)),
     }
 }
 
