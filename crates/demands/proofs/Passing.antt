@@ -97,5 +97,5 @@ module _ (g : Grammar) (input : List ℕ) (closed : Closed (g .variables) (g .ru
   pub visit-proper : {A p : ℕ} {t : Result} (ls : List Line) → Within (g .variables) (length input) A p → Has (g .rule) input (A at p) (result t)
       → Visits (g .rule) input [] (A at p) ls → Proper g input (linesBytes ls) (A at p) t
   visit-proper ls w has visits =
-      let each = each-follows (g .rule) input (g .variables) closed few short Passing more w visits (no-line, λ m. tt) in
+      let each = each-follows (g .rule) input (g .variables) closed Passing more w visits (no-line, λ m. tt) in
       record { lines = ls; reads = written-reads ls (each .1 (few-lines ls w visits)); each = each .0; last = last-line (g .rule) input has visits }

@@ -13,9 +13,9 @@ use Rattle.grammar.specs.Class.{classOf}
 use Rattle.grammar.specs.Rule.{Rule, absent, always, never, byte, class, call}
 use Rattle.schema.specs.Derivation.{Pair, _at_, Result, success, failure, gives, calls, atEnd, actOf, act, second, Derives}
 use Rattle.schema.specs.Closed.{Variable, Closed}
-use Rattle.schema.specs.Table.{cell, cells}
+use Rattle.schema.specs.Table.{Ends, cell, cells}
 use Rattle.schema.proofs.Cell.{pairOf, PairWithin, cell-below, pair-cell, cell-pair, pair-within}
-use Rattle.schema.proofs.Ends.{EndsWithin, derives-ends}
+use Rattle.schema.proofs.Ends.{ends-in, derives-ends}
 use Rattle.schema.proofs.System.{gts, kind-calls, first-is, second-is, from-done}
 
 byte-not-calls : (p B C D : ℕ) (b m : Bool) → cond b (cond m (gives (success (p + 1))) (gives failure)) atEnd ≡ calls B C D → ⊥
@@ -33,11 +33,12 @@ calls-call (byte b) s p B C D e = absurd (byte-not-calls p B C D (ltb p (length 
 calls-call (class c) s p B C D e = absurd (byte-not-calls p B C D (ltb p (length s)) (eqb (classOf (getD s p 0)) c) e)
 calls-call (call E F G) s p B C D e = cc
 
-module _ (rule : ℕ → Rule) (s : List ℕ) (v : ℕ) (closed : Closed v rule) where
-  second-within : (C D p : ℕ) (t : Result) → Variable v C → Variable v D → p ≤ length s → EndsWithin p (length s) t → PairWithin v (length s) (second C D p t)
-  second-within C D p (success q) c d l e = record { low = c .0; high = c .1; position = e .1 }
-  second-within C D p failure c d l e = record { low = d .0; high = d .1; position = l }
+-- The second called pair is a pair.
+pub second-within : (v n C D p : ℕ) (t : Result) → Variable v C → Variable v D → p ≤ n → Ends n t → PairWithin v n (second C D p t)
+second-within v n C D p (success q) c d l e = record { low = c .0; high = c .1; position = e }
+second-within v n C D p failure c d l e = record { low = d .0; high = d .1; position = l }
 
+module _ (rule : ℕ → Rule) (s : List ℕ) (v : ℕ) (closed : Closed v rule) where
   first-of : (x : Pair) → PairWithin v (length s) x → gts rule s .kind x ≡ theory.Kind.calls → PairWithin v (length s) (gts rule s .first x)
   unfolding gts
   first-of (A at p) w q =
@@ -53,7 +54,7 @@ module _ (rule : ℕ → Rule) (s : List ℕ) (v : ℕ) (closed : Closed v rule)
       let i = closed A (c .0) (c .1) (c .2) (calls-call (rule A) s p (c .0) (c .1) (c .2) (c .3)) in
       let d = subst (λ (x : Pair). Derives rule s x t (m .0) (m .1)) (first-is rule s A p (c .3)) (from-done rule s (m .2)) in
       subst (PairWithin v (length s)) (sym (second-is rule s A p (c .3) t))
-      (second-within (c .1) (c .2) p t (i .1) (i .2) (w .position) (derives-ends rule s (w .position) d))
+      (second-within v (length s) (c .1) (c .2) p t (i .1) (i .2) (w .position) (ends-in p (length s) t (derives-ends rule s (w .position) d)))
 
   -- The cells number the pairs.
   pub numbering : Numbering (gts rule s) (cell (length s)) (pairOf (length s)) (PairWithin v (length s)) (cells v (length s))

@@ -11,6 +11,7 @@ use Rattle.calls.proofs.Clash.{clash}
 use Rattle.grammar.specs.Class.{classOf}
 use Rattle.grammar.specs.Rule.{Rule, absent, always, never, byte, class, call}
 use Rattle.schema.specs.Derivation.{Pair, _at_, Result, success, failure, gives, atEnd, actOf, act, second, Derives, leaf, node}
+use Rattle.schema.specs.Table.{Ends}
 
 -- The position of a pair.
 abbrev pub positionOf : Pair → ℕ
@@ -20,6 +21,11 @@ positionOf (A at p) = p
 abbrev pub EndsWithin : ℕ → ℕ → Result → Type 0
 EndsWithin p n (success q) = (p ≤ q) × (q ≤ n)
 EndsWithin p n failure = Unit {0}
+
+-- Such an end is a position.
+pub ends-in : (p n : ℕ) (r : Result) → EndsWithin p n r → Ends n r
+ends-in p n (success q) e = e .1
+ends-in p n failure e = tt
 
 byte-ends : (s : List ℕ) (p : ℕ) (r : Result) (b m : Bool) → ltb p (length s) ≡ b
     → cond b (cond m (gives (success (p + 1))) (gives failure)) atEnd ≡ gives r → EndsWithin p (length s) r

@@ -40,7 +40,7 @@ pub step-bounds : {rule : ℕ → Rule} {s : List ℕ} {v : ℕ} {T W : List ℕ
 step-bounds {rule} {s} {v} {T} {W} {x} r =
     let w = r .walkable in
     let i = r .within in
-    let j : Within v (length s) (x .called) (x .target) = called-within rule s v (w .closed) (w .few) (w .short) i (r .called) in
+    let j : Within v (length s) (x .called) (x .target) = called-within rule s v (w .closed) i (r .called) in
     let a = cell-below v (length s) (topOf x) i in
     let b = cell-below v (length s) (calledOf x) j in
     let few = w .few in

@@ -10,7 +10,7 @@ use Rattle.grammar.specs.Rule.{Rule}
 use Rattle.schema.specs.Cells.{heldAt}
 use Rattle.schema.specs.Closed.{Closed}
 use Rattle.schema.specs.Derivation.{Pair, _at_, Result, success, failure, gives, calls, act, second, result}
-use Rattle.schema.specs.Table.{cells, code, held}
+use Rattle.schema.specs.Table.{Ends, cells, code, held}
 
 -- An open cell, of a pair that is asked and not decided yet, holds a number above every code.
 abbrev pub openMark : ℕ
@@ -20,11 +20,6 @@ openMark = 4294967295
 pub record Unsettled (c : ℕ) : Type 0 where
   pub no-failure : c ≢ 1
   pub no-success : c < 5
-
--- The end of a result is a position of the n bytes.
-abbrev pub Ends : ℕ → Result → Type 0
-Ends n (success q) = q ≤ n
-Ends n failure = Unit {0}
 
 -- A cell that holds the result r, on n bytes.
 pub record Settled (n c : ℕ) (r : Result) : Type 0 where

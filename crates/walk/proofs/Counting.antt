@@ -38,7 +38,7 @@ module _ (rule : ℕ → Rule) (s : List ℕ) (v : ℕ) (closed : Closed v rule)
   new = fresh (held (length s) T (calledOf y))
 
   called-below : cell (length s) (calledOf y) < N
-  called-below = cell-below v (length s) (calledOf y) (called-within rule s v closed few short (g .within) (g .called))
+  called-below = cell-below v (length s) (calledOf y) (called-within rule s v closed (g .within) (g .called))
 
   called-in : cell (length s) (calledOf y) < length T
   called-in = let l = called-below in let e = g .through .size in omega arith

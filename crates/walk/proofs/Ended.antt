@@ -130,7 +130,7 @@ module _ (rule : ℕ → Rule) (s : List ℕ) (v : ℕ) (closed : Closed v rule)
       (end-loop (heldCells rule s (view mark O)) (cells v (length s)) (start-bounded rule s v closed O (g .fits-before)) root-below (g .inv)
       (called-link rule s v closed short O T within (top-free O T (cell (length s) (a at p)) (g .inv)) c)
       (mark-open (held (length s) T (b at q)) e))
-      (b at q) (pair-cell v (length s) (b at q) (called-within rule s v closed few short within c))
+      (b at q) (pair-cell v (length s) (b at q) (called-within rule s v closed within c))
 
   -- The pair has no rule, or no byte.
   pub stuck-ends : (t : Stop) → act rule s (a at p) ≡ stops t → TableEnds rule s v x O T (stopped t) (a at p) opens-here

@@ -12,7 +12,7 @@ use Rattle.schema.specs.Cells.{heldAt, stored}
 use Rattle.schema.proofs.Cells.{stored-there, stored-elsewhere, stored-later, stored-length}
 use Rattle.schema.specs.Derivation.{Pair, _at_, Result, end, second, result, Has, success, failure}
 use Rattle.schema.specs.Reached.{Reached, itself, first-of, second-of}
-use Rattle.schema.specs.Table.{Within, cell, cells, decided, held, Holds, Table, code}
+use Rattle.schema.specs.Table.{Ends, Within, cell, cells, decided, held, Holds, Table, code}
 use Rattle.schema.proofs.Answer.{reached-cell}
 use Rattle.schema.proofs.Cell.{PairWithin, cell-below}
 use Rattle.schema.proofs.Codes.{code-full}
@@ -20,7 +20,7 @@ use Rattle.schema.proofs.Laws.{has-one}
 use Rattle.walk.specs.Reply.{Reply, reply, told}
 use Rattle.walk.specs.Finish.{FinishReady, Finishes}
 use Rattle.walk.specs.Over.{OverReady, Over}
-use Rattle.step.specs.Codes.{openMark, Unsettled, Ends, Settled, Fits, fresh}
+use Rattle.step.specs.Codes.{openMark, Unsettled, Settled, Fits, fresh}
 use Rattle.walk.specs.Walk.{Counts, before, RightTable, WalkReady, WalkEnds, HeldAt, TableMeans, outcomeOf, namedOf, SettledCode}
 use Rattle.walk.specs.declared.Answer.{Answer}
 use Rattle.step.specs.declared.Walk.{Walk}

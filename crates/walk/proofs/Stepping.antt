@@ -74,7 +74,7 @@ module _ (rule : ℕ → Rule) (s : List ℕ) (v : ℕ) (closed : Closed v rule)
     in-table z i = let l = cell-below v (length s) z i in let e = g .through .size in omega arith
 
     called-in : PairWithin v (length s) (calledOf y)
-    called-in = called-within rule s v closed few short (g .within) (g .called)
+    called-in = called-within rule s v closed (g .within) (g .called)
 
     -- ---- The called pair is looked up and has its result.
 

@@ -20,9 +20,9 @@ use Rattle.schema.specs.Closed.{Closed}
 use Rattle.schema.specs.Derivation.{Pair, _at_, Result, success, failure, gives, act}
 use Rattle.schema.specs.Table.{Within, cell, cells, held}
 use Rattle.schema.proofs.Answer.{gtsCells}
-use Rattle.schema.proofs.Held.{EndsBelow, heldCells, held-bounded}
+use Rattle.schema.proofs.Held.{heldCells, held-bounded}
 use Rattle.schema.proofs.Cell.{cell-below}
-use Rattle.step.specs.Codes.{openMark, Unsettled, Ends, Settled, Fits, Called, Given, by-leaf}
+use Rattle.step.specs.Codes.{openMark, Unsettled, Settled, Fits, Called, Given, by-leaf}
 use Rattle.walk.specs.Walk.{before, WalkReady}
 use Rattle.step.proofs.Within.{called-within}
 use Rattle.walk.proofs.Marks.{mark, mark-open, mark-settled, mark-blank, stands}
@@ -48,15 +48,11 @@ pub code-fits : (n c : ℕ) (r : Result) → Settled n c r → Fits n c
 code-fits n c (success q) k = let e = k .code-is in let f = k .ends in inl (omega arith)
 code-fits n c failure k = let e = k .code-is in inl (omega arith)
 
-ends-below : (n : ℕ) (r : Result) → Ends n r → EndsBelow n r
-ends-below n (success q) e = e
-ends-below n failure e = tt
-
 -- Whatever the table before holds, what the walk calls has a cell.
 pub start-bounded : (rule : ℕ → Rule) (s : List ℕ) (v : ℕ) (closed : Closed v rule) (O : List ℕ) → ((i : ℕ) → i < cells v (length s) → Fits (length s) (heldAt O i))
     → Bounded (heldCells rule s (view mark O)) (cells v (length s))
 start-bounded rule s v closed O f =
-    held-bounded rule s v closed (view mark O) (λ i r l e. ends-below (length s) r (stands (length s) (heldAt O i) (settled r) (f i l) e .ends))
+    held-bounded rule s v closed (view mark O) (λ i r l e. stands (length s) (heldAt O i) (settled r) (f i l) e .ends)
 
 module _ (rule : ℕ → Rule) (s : List ℕ) (v : ℕ) (closed : Closed v rule) (few : v ≤ 256) (short : length s ≤ 4096) where
   module _ (A p : ℕ) (T₀ W₀ : List ℕ) (r : WalkReady rule s v A p T₀ W₀) where
@@ -159,7 +155,7 @@ module _ (rule : ℕ → Rule) (s : List ℕ) (v : ℕ) (closed : Closed v rule)
       (g : Through rule s v x O T (cell (length s) (a at p) ∷ stack)) (room : cells v (length s) ≤ length O)
       {k : Bool} (b q : ℕ) (called : Called rule s T k (a at p) (b at q)) (new : Unsettled (held (length s) T (b at q))) where
     pub open-within : Within v (length s) b q
-    open-within = called-within rule s v closed few short within called
+    open-within = called-within rule s v closed within called
 
     open-below : cell (length s) (b at q) < cells v (length s)
     open-below = cell-below v (length s) (b at q) open-within

@@ -14,7 +14,7 @@ use Rattle.schema.specs.Line.{linesBytes}
 use Rattle.schema.specs.Table.{cell, cells, code, decided, held, Holds}
 use Rattle.schema.proofs.Answer.{reached-cell}
 use Rattle.schema.proofs.Cell.{PairWithin, cell-below}
-use Rattle.schema.proofs.Ends.{derives-ends}
+use Rattle.schema.proofs.Ends.{ends-in, derives-ends}
 use Rattle.schema.proofs.Laws.{has-one}
 use Rattle.walk.specs.Reply.{Reply, reply, outcomeOf}
 use Rattle.memo.specs.Answer.{Says}
@@ -23,7 +23,6 @@ use Rattle.cells.proofs.Numbers.{cells-small}
 use Rattle.walk.proofs.Cleared.{cleared, cleared-at, cleared-length, cleared-later}
 use Rattle.writer.specs.Writer.{Lines, SaysWriting}
 use Rattle.writer.specs.Writing.{noLink, WriteReady, WriteEnds, AskWriteReady, LinesReady, hasResult}
-use Rattle.writer.proofs.WriterLaws.{ends-in}
 
 module _ {rule : ℕ → Rule} {s : List ℕ} {v A p : ℕ} {T W out : List ℕ} (r : LinesReady rule s v A p T W out) {W₁ : List ℕ}
     (e : W₁ ≡ cleared (cells v (length s)) W) {root : ℕ} (i : root ≡ cell (length s) (A at p)) where

@@ -117,10 +117,10 @@ module _ {rule : ℕ → Rule} {s : List ℕ} {v A p : ℕ} {T W : List ℕ} (q 
         rw (k .2, k .3) (of-calls e (f .1) (k .0) (k .1))
 
 -- A pair to go down to is within.
-pub lower-in : {rule : ℕ → Rule} {s : List ℕ} {v : ℕ} {T W : List ℕ} {y z : Pair} → v ≤ 256 → length s ≤ 4096 → Closed v rule → PairWithin v (length s) y → Lower rule s T W y z
+pub lower-in : {rule : ℕ → Rule} {s : List ℕ} {v : ℕ} {T W : List ℕ} {y z : Pair} → Closed v rule → PairWithin v (length s) y → Lower rule s T W y z
     → PairWithin v (length s) z
-lower-in {rule} {s} {v} {T} few short closed w (to-first e b) = called-within rule s v closed few short {T = T} w (first-called e)
-lower-in {rule} {s} {v} {T} few short closed w (to-second e m b c) = called-within rule s v closed few short {T = T} w (second-called e m)
+lower-in {rule} {s} {v} {T} closed w (to-first e b) = called-within rule s v closed {T = T} w (first-called e)
+lower-in {rule} {s} {v} {T} closed w (to-second e m b c) = called-within rule s v closed {T = T} w (second-called e m)
 
 module _ {rule : ℕ → Rule} {s : List ℕ} {v : ℕ} {T W out : List ℕ} {x : Stand} (q : StepReady rule s v T W out x) where
   -- What linking it asks.
@@ -128,7 +128,7 @@ module _ {rule : ℕ → Rule} {s : List ℕ} {v : ℕ} {T W out : List ℕ} {x 
       → (1 ≤ b) × (b ≤ 256) × (length s ≤ 4096) × (u ≤ length s) × (cell (length s) (b at u) < length W) × (x .variable ≤ 256) × (x .position ≤ 4096)
   link-ready {b} {u} l =
       let t = q .turns in
-      let i = lower-in (t .few) (t .short) (t .closed) (t .within) l in
+      let i = lower-in (t .closed) (t .within) l in
       let k = cell-in v (length s) W b u (t .few) (t .short) (t .work-room) (i .low, i .high) (i .position) in
       let h = t .within .high in
       let p = t .within .position in

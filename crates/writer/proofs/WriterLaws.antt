@@ -3,27 +3,20 @@
 use mathlib.Core.Path.{_≡_, refl, sym, subst}
 use mathlib.Core.List.{List, [], _∷_, _++_}
 use mathlib.Core.Logic.{inl, inr}
-use Prim.Native.Nat.{ℕ, _≤_}
+use Prim.Native.Nat.{ℕ}
 use lib.ListN.{length, length-append}
 use Rattle.grammar.specs.Rule.{Rule}
 use Rattle.schema.specs.Closed.{Closed}
 use Rattle.schema.specs.Derivation as derivation
-use Rattle.schema.specs.Derivation.{Pair, _at_, Result, success, failure, second, Derives, result, Has}
+use Rattle.schema.specs.Derivation.{Pair, _at_, Result, second, Derives, result, Has}
 use Rattle.schema.specs.Line.{Line, lineOf, Stands, Follows, by-leaf, by-call}
 use Rattle.schema.proofs.Cell.{PairWithin}
-use Rattle.schema.proofs.Closed.{calls-call}
-use Rattle.schema.proofs.Ends.{EndsWithin, derives-ends}
+use Rattle.schema.proofs.Closed.{calls-call, second-within}
+use Rattle.schema.proofs.Ends.{ends-in, derives-ends}
 use Rattle.schema.proofs.Laws.{has-one}
-use Rattle.step.specs.Codes.{Ends}
 use Rattle.writer.specs.Writer.{Unwritten, Visits, passed, leaf, node}
-use Rattle.step.proofs.Within.{second-within}
 use Rattle.schema.proofs.Lines.{stands-none, stands-last, stands-cases}
 use Rattle.writer.proofs.Visiting.{visit-keeps}
-
--- An end within lies within the input.
-pub ends-in : (p n : ℕ) (t : Result) → EndsWithin p n t → Ends n t
-ends-in p n (success q) e = e .1
-ends-in p n failure e = tt
 
 module _ (rule : ℕ → Rule) (s : List ℕ) where
   -- What the lines say, derivations say.
@@ -65,7 +58,7 @@ module _ (rule : ℕ → Rule) (s : List ℕ) where
 
   -- ---- Every line follows.
 
-  module _ (v : ℕ) (closed : Closed v rule) (few : v ≤ 256) (short : length s ≤ 4096) (P : List Line → Type 0)
+  module _ (v : ℕ) (closed : Closed v rule) (P : List Line → Type 0)
       (more : (earlier : List Line) (l : Line) → P earlier → Follows rule v s earlier l → P (earlier ++ l ∷ [])) where
     visit-follows : {before after : List Line} {x : Pair} → PairWithin v (length s) x → Right before → Visits rule s before x after → P before → P after
     visit-follows w g (passed m) h = h
@@ -75,7 +68,7 @@ module _ (rule : ℕ → Rule) (s : List ℕ) where
         let g₁ = visit-right a g in
         let f : PairWithin v (length s) (B at p) = record { low = c .0 .0; high = c .0 .1; position = w .position } in
         let d = ends-in p (length s) t (derives-ends rule s {x = B at p} (w .position) (g₁ (B at p) t i m .2)) in
-        let n = second-within rule s v closed few short C D p t (c .1) (c .2) (w .position) d in
+        let n = second-within v (length s) C D p t (c .1) (c .2) (w .position) d in
         more after (lineOf (A at p) r i j) (visit-follows n g₁ b (visit-follows f g a h))
         (by-call w e (visit-keeps rule s b m) k refl)
 
