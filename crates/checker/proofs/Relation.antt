@@ -99,8 +99,8 @@ module _ (earlier : List Line) where
     says-own : (A p i j : ℕ) (r : Result) → Within v (length input) A p → resultBy (numbered earlier) (act rule input (A at p)) p i j ≡ some r
         → follows rule v input (numbered earlier) (some (lineOf (A at p) r i j)) ≡ true
     unfolding follows
-    says-own A p i j (success q) w h = rw (within-both 1 v A (w .low) (w .high), le-leb p (length input) (w .position), h, eq-eqb q q refl)
-    says-own A p i j failure w h = rw (within-both 1 v A (w .low) (w .high), le-leb p (length input) (w .position), h, eq-eqb p p refl)
+    says-own A p i j (success q) w h = rw (within-both 1 v A (w .variable .0) (w .variable .1), le-leb p (length input) (w .position), h, eq-eqb q q refl)
+    says-own A p i j failure w h = rw (within-both 1 v A (w .variable .0) (w .variable .1), le-leb p (length input) (w .position), h, eq-eqb p p refl)
 
     relation-of : (l : Line) → follows rule v input (numbered earlier) (some l) ≡ true → Follows rule v input earlier l
     unfolding follows
@@ -108,7 +108,7 @@ module _ (earlier : List Line) where
         let b = and-eq-true-iff (within 1 v A && leb p (length input)) _ .0 h in
         let d = and-eq-true-iff (within 1 v A) (leb p (length input)) .0 (b .0) in
         let m = within-bounds 1 v A (d .0) in
-        let w : Within v (length input) A p = record { low = m .0; high = m .1; position = leb-true p (length input) (d .1) } in
+        let w : Within v (length input) A p = record { variable = m; position = leb-true p (length input) (d .1) } in
         let y = says-line A p flag e i j (resultBy (numbered earlier) (act rule input (A at p)) p i j) (b .1) in
         follows-by A p i j (y .0) (act rule input (A at p)) (line A p flag e i j) w refl (y .1) (y .2)
 

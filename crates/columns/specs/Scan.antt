@@ -1,11 +1,11 @@
 -- What the steps of reading and writing a field do. Assumes nothing.
-use mathlib.Core.Bool.{true, cond, _&&_}
+use mathlib.Core.Bool.{true, _&&_}
 use mathlib.Core.List.{List, [], _∷_}
 use mathlib.Core.Logic.{_≢_}
 use mathlib.Core.Option.{Option, none, some}
 use mathlib.Core.Path.{_≡_}
-use Prim.Native.Nat.{ℕ, _+_, _/_, _%_, _≤_, _<_}
-use lib.Dec.{eqb, leb}
+use Prim.Native.Nat.{ℕ, _/_, _%_, _≤_, _<_}
+use lib.Dec.{leb}
 use lib.ListN.{getD}
 use lib.Seq.{slice}
 use Rattle.columns.specs.Column.{number}
@@ -23,10 +23,6 @@ pub record Skipped (s : List ℕ) (at end r : ℕ) : Type 0 where
 abbrev pub held : Digits → Option ℕ
 held (Value x) = some x
 held Fault = none
-
--- One column left of the last, where x is what is left of the number.
-abbrev pub leadingByte : ℕ → ℕ
-leadingByte x = cond (eqb x 0) 32 (48 + x % 10)
 
 -- Five columns, four of them in one number, the first lowest.
 abbrev pub fiveOf : ℕ → ℕ → List ℕ

@@ -61,7 +61,7 @@ numbered-most ls (suc i) l e = at-most ls i l e
 module _ (g : Grammar) (input : List ℕ) (closed : Closed (g .variables) (g .rule)) (few : g .variables ≤ 256) (short : length input ≤ 4096) where
   follow-fits : (earlier : List Line) (l : Line) → FitLines earlier → length earlier < 10 ^ 8 → Follows (g .rule) (g .variables) input earlier l → FitLine l
   follow-fits earlier l f n (by-leaf {A} {p} {r} w a e) =
-      subst FitLine (sym e) (line-fits A p r 0 0 (omega (arith, w .high)) (omega (arith, w .position)) (leaf-end r (derives-ends (g .rule) input {x = A at p} (w .position) (derivation.Derives.leaf a))) (omega arith) (omega arith))
+      subst FitLine (sym e) (line-fits A p r 0 0 (omega (arith, w .variable .1)) (omega (arith, w .position)) (leaf-end r (derives-ends (g .rule) input {x = A at p} (w .position) (derivation.Derives.leaf a))) (omega arith) (omega arith))
     where
       leaf-end : (r : Result) → EndsWithin p (length input) r → EndFits r
       leaf-end (success q) k = omega (arith, k .1)
@@ -69,7 +69,7 @@ module _ (g : Grammar) (input : List ℕ) (closed : Closed (g .variables) (g .ru
   follow-fits earlier l f n (by-call {A} {B} {C} {D} {p} {i} {j} {r} {t} w a m k e) =
       let u = numbered-most earlier i _ (m .line) in
       let v = numbered-most earlier j _ (k .line) in
-      subst FitLine (sym e) (line-fits A p r i j (omega (arith, w .high)) (omega (arith, w .position))
+      subst FitLine (sym e) (line-fits A p r i j (omega (arith, w .variable .1)) (omega (arith, w .position))
       (end-fits (second C D p t) r (k .first) (k .second) (fits-numbered earlier j _ f (k .line))) (omega arith) (omega arith))
 
   -- Each line follows, and fits if there are not too many.

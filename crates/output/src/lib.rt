@@ -3,10 +3,10 @@ ghost use mathlib.Core.Path.{_≡_};
 ghost use lib.ListN.{length};
 ghost use Rattle.memo.specs.Verdict.{numbers};
 ghost use Rattle.output.specs.Output.{StartOf, Certificate, OutputPromise};
-use columns::write_row;
 use grammar::sheet::Sheet;
 use grammar::sheet::read_sheet;
 use memo::Judgement;
+use rows::write_row;
 use writer::write;
 
 pub mod program;

@@ -65,4 +65,4 @@ pub question-accepted : (s : List ℕ) (h : Handed) (g : Grammar) (A p : ℕ) �
 question-accepted s h g A p e q =
     let w = handed-pair s h g e (A at p) q in
     asked-by s (h .input) g A p (handed-sheet s h g e) (le-ltb 4096 (length (h .input)) (handed-input s h g e))
-    (within-both 1 (g .variables) A (w .low) (w .high)) (le-ltb (length (h .input)) p (w .position))
+    (within-both 1 (g .variables) A (w .variable .0) (w .variable .1)) (le-ltb (length (h .input)) p (w .position))

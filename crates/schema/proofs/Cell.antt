@@ -20,7 +20,7 @@ rows-apart a b m l = rw (← suc-mul a m) (mul-le-mul-right m l)
 -- A cell is below V times (n + 1).
 pub cell-below : (v n : ℕ) (x : Pair) → PairWithin v n x → cell n x < cells v n
 cell-below v n (A at p) w =
-    let l = rows-apart (A - 1) v (n + 1) (omega (arith, w .low, w .high)) in
+    let l = rows-apart (A - 1) v (n + 1) (omega (arith, w .variable .0, w .variable .1)) in
     omega (arith, w .position)
 
 -- The pair of a pair's cell is the pair.
@@ -31,7 +31,7 @@ pair-cell v n (A at p) w =
     let c = add-comm ((A - 1) * (n + 1)) p in
     let d = add-mul-div-right p (A - 1) z in
     let d₀ = div-eq-of-lt q in
-    let a : ((A - 1) * (n + 1) + p) / (n + 1) + 1 ≡ A = rw c (omega (arith, w .low, d, d₀)) in
+    let a : ((A - 1) * (n + 1) + p) / (n + 1) + 1 ≡ A = rw c (omega (arith, w .variable .0, d, d₀)) in
     let b : ((A - 1) * (n + 1) + p) % (n + 1) ≡ p = rw c (add-mul-mod-self-right p (A - 1) (n + 1) ∙ mod-eq-of-lt q) in
     ap₂ _at_ a b
 
@@ -50,4 +50,4 @@ pub pair-within : (v n i : ℕ) → i < cells v n → PairWithin v n (pairOf n i
 pair-within v n i l =
     let d : i / (n + 1) < v = div-lt-iff-lt-mul {k = n + 1} {x = i} {y = v} (omega arith) .1 l in
     let m = mod-lt i {m = n + 1} (omega arith) in
-    record { low = omega arith; high = omega arith; position = omega arith }
+    record { variable = (omega arith, omega arith); position = omega arith }

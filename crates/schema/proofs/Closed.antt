@@ -35,8 +35,8 @@ calls-call (call E F G) s p B C D e = cc
 
 -- The second called pair is a pair.
 pub second-within : (v n C D p : ℕ) (t : Result) → Variable v C → Variable v D → p ≤ n → Ends n t → PairWithin v n (second C D p t)
-second-within v n C D p (success q) c d l e = record { low = c .0; high = c .1; position = e }
-second-within v n C D p failure c d l e = record { low = d .0; high = d .1; position = l }
+second-within v n C D p (success q) c d l e = record { variable = c; position = e }
+second-within v n C D p failure c d l e = record { variable = d; position = l }
 
 module _ (rule : ℕ → Rule) (s : List ℕ) (v : ℕ) (closed : Closed v rule) where
   first-of : (x : Pair) → PairWithin v (length s) x → gts rule s .kind x ≡ theory.Kind.calls → PairWithin v (length s) (gts rule s .first x)
@@ -44,7 +44,7 @@ module _ (rule : ℕ → Rule) (s : List ℕ) (v : ℕ) (closed : Closed v rule)
   first-of (A at p) w q =
       let c = kind-calls (act rule s (A at p)) q in
       let i = closed A (c .0) (c .1) (c .2) (calls-call (rule A) s p (c .0) (c .1) (c .2) (c .3)) in
-      subst (PairWithin v (length s)) (sym (first-is rule s A p (c .3))) (record { low = i .0 .0; high = i .0 .1; position = w .position })
+      subst (PairWithin v (length s)) (sym (first-is rule s A p (c .3))) (record { variable = i .0; position = w .position })
 
   second-of : (x : Pair) (t : Result) → PairWithin v (length s) x → gts rule s .kind x ≡ theory.Kind.calls → Means (gts rule s) (gts rule s .first x) (value t)
       → PairWithin v (length s) (gts rule s .second x t)

@@ -50,7 +50,7 @@ module _ (s : List ℕ) (h : Handed) (g : Grammar) (e : handed s h ≡ accepted 
       let a = tested-is (h .pair) (pairVariableOut v) (A at p) q (call-clear .1 .1 .0) in
       let b = tested-is (h .pair) (pairPositionOut n) (A at p) q (call-clear .1 .1 .1 .0) in
       let i = within-bounds 1 v A (not-false (within 1 v A) a) in
-      record { low = i .0; high = i .1; position = ltb-false n p b }
+      record { variable = i; position = ltb-false n p b }
 
   -- Table and work slice, where they are handed over, are long enough,
   pub handed-slices : (table work : ℕ) → h .slices ≡ some (table, work)

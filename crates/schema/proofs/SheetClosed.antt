@@ -18,4 +18,4 @@ sheet-closed s g e A B C D q =
 
 -- The start variable at 0 is a pair.
 pub start-within : {n : ℕ} (s : List ℕ) (g : Grammar) → sheet s ≡ accepted g → Within (g .variables) n (g .start) 0
-start-within s g e = let b = grammar-in-range s g e in record { low = b .2; high = b .3; position = omega arith }
+start-within s g e = let b = grammar-in-range s g e in record { variable = (b .2, b .3); position = omega arith }

@@ -48,10 +48,10 @@ step-bounds {rule} {s} {v} {T} {W} {x} r =
     let room = w .room in
     let d = r .deep in
     let m = r .work-room in
-    let h₁ = i .high in
-    let h₂ = j .high in
+    let h₁ = i .variable .1 in
+    let h₂ = j .variable .1 in
     let p = i .position in
-    record { low = i .low; high = omega arith; position-small = omega arith; top-cell = omega arith; called-in = j; called-high = omega arith; called-cell = omega arith; deep = omega arith }
+    record { low = i .variable .0; high = omega arith; position-small = omega arith; top-cell = omega arith; called-in = j; called-high = omega arith; called-cell = omega arith; deep = omega arith }
 
 -- What going on with a result asks, over a table of the same length.
 pub resume-ready : {rule : ℕ → Rule} {s : List ℕ} {v : ℕ} {T W : List ℕ} {x : State} → StepReady rule s v T W x → (T₁ : List ℕ) → length T₁ ≡ length T → (c : ℕ) → Code c

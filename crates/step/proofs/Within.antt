@@ -15,7 +15,7 @@ module _ (rule : ℕ → Rule) (s : List ℕ) (v : ℕ) (closed : Closed v rule)
   pub called-within : {T : List ℕ} {k : Bool} {x y : Pair} → PairWithin v (length s) x → Called rule s T k x y → PairWithin v (length s) y
   called-within w (first-called {A} {B} {C} {D} {p} e) =
       let c = closed A B C D (calls-call (rule A) s p B C D e) in
-      record { low = c .0 .0; high = c .0 .1; position = w .position }
+      record { variable = c .0; position = w .position }
   called-within w (second-called {A} {B} {C} {D} {p} {t} e m) =
       let c = closed A B C D (calls-call (rule A) s p B C D e) in
       second-within v (length s) C D p t (c .1) (c .2) (w .position) (m .ends)

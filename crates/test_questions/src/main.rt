@@ -29,8 +29,8 @@ use backtrack::Ending;
 use checker::Claim;
 use columns::Cursor;
 use columns::Field;
-use columns::write_field;
 use libc::STDOUT_FILENO;
+use rows::write_field;
 use walk::Answer;
 
 // What stands in a table and in an output before a call.

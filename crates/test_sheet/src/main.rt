@@ -9,7 +9,7 @@ use libc::STDOUT_FILENO;
 
 fn print_field(x: u32) {
     let mut field = [0u8; 8];
-    columns::write_field(&mut field, x);
+    rows::write_field(&mut field, x);
     io::write_all(STDOUT_FILENO, &field);
 }
 

@@ -333,10 +333,10 @@ module _ {rule : ℕ → Rule} {s : List ℕ} {v A p : ℕ} {T₀ W₀ : List �
   asked-bounds =
       let w = r .within in
       let f = r .walkable .few in
-      let h = w .high in
+      let h = w .variable .1 in
       let m = r .walkable .room in
       let b = cell-below v (length s) (A at p) w in
-      (w .low, omega arith, r .walkable .short, w .position, omega arith)
+      (w .variable .0, omega arith, r .walkable .short, w .position, omega arith)
 
   -- The beginning: the asked pair is open, and no other, and its first call is next.
   pub stands-first : (b C D : ℕ) → act rule s (A at p) ≡ calls b C D → (x : State) → topOf x ≡ A at p → calledOf x ≡ b at p → x .second ≡ false → x .depth ≡ 0

@@ -19,10 +19,11 @@ use Rattle.schema.proofs.Laws.{derives-one}
 use Rattle.cells.specs.Packed.{packed}
 use Rattle.step.specs.Codes.{Settled}
 use Rattle.step.proofs.Looking.{result-is}
-use Rattle.writer.specs.declared.Stand.{Stand}
+use Rattle.lines.specs.declared.Stand.{Stand}
 use Rattle.writer.specs.declared.Step.the-variants as step
 use Rattle.writer.specs.Writer.{Unwritten, Visits, passed, leaf, node}
-use Rattle.writer.specs.Writing.{numberOf, link, noLink, Lower, to-first, to-second, Own, of-leaf, of-calls, pairAt, StepReady, Descends, Lays, Returns, Steps, WriteReady, WriteEnds}
+use Rattle.lines.specs.Turning.{numberOf, link, noLink, Lower, to-first, to-second, Own, of-leaf, of-calls}
+use Rattle.writer.specs.Writing.{pairAt, StepReady, Descends, Lays, Returns, Steps, WriteReady, WriteEnds}
 use Rattle.writer.proofs.Known.{Known, first-known, second-known, tells, told-derives, lower-known}
 use Rattle.schema.proofs.Lines.{stands-none}
 use Rattle.writer.proofs.Lines.{line-laid, laid-length}
@@ -52,7 +53,7 @@ owed-down {rule} {s} x (t ∷ l) b u g h after n q v = λ last m k w. h last u g
 
 -- A link is no pair's where none called.
 link-some : (v n : ℕ) (z : Pair) → PairWithin v n z → link z ≢ noLink
-link-some v n (A at p) w e = let l = w .low in omega arith
+link-some v n (A at p) w e = let l = w .variable .0 in omega arith
 
 lower-blank : {rule : ℕ → Rule} {s T W : List ℕ} {y z : Pair} → Lower rule s T W y z → numberOf (length s) W z ≡ 0
 lower-blank (to-first e b) = b

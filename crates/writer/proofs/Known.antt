@@ -13,7 +13,8 @@ use Rattle.schema.specs.Table.{held}
 use Rattle.schema.proofs.Laws.{derives-one}
 use Rattle.step.specs.Codes.{Settled}
 use Rattle.walk.proofs.Marks.{settled-one}
-use Rattle.writer.specs.Writing.{Lower, to-first, to-second, Finished}
+use Rattle.lines.specs.Turning.{Lower, to-first, to-second}
+use Rattle.writer.specs.Writing.{Finished}
 use Rattle.writer.proofs.Visiting.{calls-one}
 
 -- A pair that x reaches, with a result in k steps.

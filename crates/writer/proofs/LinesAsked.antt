@@ -22,7 +22,8 @@ use Rattle.step.specs.Codes.{Settled}
 use Rattle.cells.proofs.Numbers.{cells-small}
 use Rattle.walk.proofs.Cleared.{cleared, cleared-at, cleared-length, cleared-later}
 use Rattle.writer.specs.Writer.{Lines, SaysWriting}
-use Rattle.writer.specs.Writing.{noLink, WriteReady, WriteEnds, AskWriteReady, LinesReady, hasResult}
+use Rattle.lines.specs.Turning.{noLink}
+use Rattle.writer.specs.Writing.{WriteReady, WriteEnds, AskWriteReady, LinesReady, hasResult}
 
 module _ {rule : ℕ → Rule} {s : List ℕ} {v A p : ℕ} {T W out : List ℕ} (r : LinesReady rule s v A p T W out) {W₁ : List ℕ}
     (e : W₁ ≡ cleared (cells v (length s)) W) {root : ℕ} (i : root ≡ cell (length s) (A at p)) where

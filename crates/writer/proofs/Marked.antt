@@ -23,7 +23,7 @@ use Rattle.schema.proofs.Cell.{PairWithin, cell-one}
 use Rattle.schema.proofs.Laws.{has-one}
 use Rattle.cells.specs.Packed.{packed}
 use Rattle.writer.specs.Writer.{Unwritten}
-use Rattle.writer.specs.Writing.{numberOf, link, noLink}
+use Rattle.lines.specs.Turning.{numberOf, link, noLink}
 use Rattle.writer.proofs.Known.{Known, apart}
 use Rattle.schema.proofs.Lines.{stands-before, stands-last, stands-cases}
 use Rattle.writer.proofs.Visiting.{Alike}

@@ -66,7 +66,7 @@ module _ (rule : ℕ → Rule) (s : List ℕ) where
     visit-follows w g (node {middle = middle} {after = after} {A = A} {B = B} {C = C} {D = D} {p = p} {i = i} {j = j} {r = r} {t = t} u e a m b k) h =
         let c = closed A B C D (calls-call (rule A) s p B C D e) in
         let g₁ = visit-right a g in
-        let f : PairWithin v (length s) (B at p) = record { low = c .0 .0; high = c .0 .1; position = w .position } in
+        let f : PairWithin v (length s) (B at p) = record { variable = c .0; position = w .position } in
         let d = ends-in p (length s) t (derives-ends rule s {x = B at p} (w .position) (g₁ (B at p) t i m .2)) in
         let n = second-within v (length s) C D p t (c .1) (c .2) (w .position) d in
         more after (lineOf (A at p) r i j) (visit-follows n g₁ b (visit-follows f g a h))

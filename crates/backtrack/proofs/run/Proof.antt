@@ -21,7 +21,7 @@ run-rules-requires c κs =
     let t = admitted _ _ _ _ _ _ _ (m .ensures) _ (c .before .before .enum-told .given .1) in
     let w = t .pair-within in
     let few = t .variables-few in
-    (w .low, omega arith, t .input-short)
+    (w .variable .0, omega arith, t .input-short)
 
 returns : tie.Need-returns
 returns c =

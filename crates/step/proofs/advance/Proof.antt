@@ -18,7 +18,7 @@ cell-number-requires : tie.Need-cell-number-requires
 cell-number-requires c κs =
     let r = c .before .before .before .before .pre in
     let b = step-bounds r in
-    (b .called-in .low, b .called-high, r .walkable .short, b .called-in .position)
+    (b .called-in .variable .0, b .called-high, r .walkable .short, b .called-in .position)
 
 load-requires : tie.Need-load-requires
 load-requires c κs =

@@ -17,7 +17,7 @@ act-at-requires : tie.Need-act-at-requires
 act-at-requires c κs =
     let r = c .before .before .before .pre .0 in
     let b = step-bounds r in
-    (b .called-in .low, b .called-high, r .walkable .short)
+    (b .called-in .variable .0, b .called-high, r .walkable .short)
 
 enum-known-end : tie.Need-enum-known-end
 enum-known-end c = search needs
@@ -37,7 +37,7 @@ settle-leaf-requires : tie.Need-settle-leaf-requires
 settle-leaf-requires c κs =
     let r = c .before .before .before .before .before .before .before .before .before .before .pre .0 in
     let b = step-bounds r in
-    (resume-ready r _ refl _ (inr (omega (arith, c .success .ensures))), b .called-in .low, b .called-high, b .called-in .position, b .called-cell)
+    (resume-ready r _ refl _ (inr (omega (arith, c .success .ensures))), b .called-in .variable .0, b .called-high, b .called-in .position, b .called-cell)
 
 enum-told : tie.Need-enum-told
 enum-told c = search needs
@@ -46,7 +46,7 @@ settle-leaf-requires-2 : tie.Need-settle-leaf-requires-2
 settle-leaf-requires-2 c κs =
     let r = c .before .before .before .before .before .before .before .before .pre .0 in
     let b = step-bounds r in
-    (resume-ready r _ refl _ (inl refl), b .called-in .low, b .called-high, b .called-in .position, b .called-cell)
+    (resume-ready r _ refl _ (inl refl), b .called-in .variable .0, b .called-high, b .called-in .position, b .called-cell)
 
 enum-known-b : tie.Need-enum-known-b
 enum-known-b c = search needs
@@ -55,7 +55,7 @@ open-called-requires : tie.Need-open-called-requires
 open-called-requires c κs =
     let r = c .before .before .before .before .before .before .before .before .before .pre .0 in
     let b = step-bounds r in
-    (b .called-in .low, b .called-high, r .walkable .short, b .called-in .position, b .called-cell, b .high, b .position-small, b .deep)
+    (b .called-in .variable .0, b .called-high, r .walkable .short, b .called-in .position, b .called-cell, b .high, b .position-small, b .deep)
 
 add-t27 : tie.Need-add-t27
 add-t27 c = search needs
@@ -67,7 +67,7 @@ open-called-requires-2 : tie.Need-open-called-requires-2
 open-called-requires-2 c κs =
     let r = c .before .before .before .before .before .before .before .before .pre .0 in
     let b = step-bounds r in
-    (b .called-in .low, b .called-high, r .walkable .short, b .called-in .position, b .called-cell, b .high, b .position-small, b .deep)
+    (b .called-in .variable .0, b .called-high, r .walkable .short, b .called-in .position, b .called-cell, b .high, b .position-small, b .deep)
 
 add-t34 : tie.Need-add-t34
 add-t34 c = search needs
@@ -79,7 +79,7 @@ open-called-requires-3 : tie.Need-open-called-requires-3
 open-called-requires-3 c κs =
     let r = c .before .before .before .before .before .before .before .before .pre .0 in
     let b = step-bounds r in
-    (b .called-in .low, b .called-high, r .walkable .short, b .called-in .position, b .called-cell, b .high, b .position-small, b .deep)
+    (b .called-in .variable .0, b .called-high, r .walkable .short, b .called-in .position, b .called-cell, b .high, b .position-small, b .deep)
 
 add-t41 : tie.Need-add-t41
 add-t41 c = search needs

@@ -25,8 +25,8 @@ cell-number-requires c κs =
     let r = c .before .before .before .before .pre in
     let i = top-within r (c .before .loop .inv) in
     let f = r .few in
-    let h = i .high in
-    (i .low, omega arith, r .short, i .position)
+    let h = i .variable .1 in
+    (i .variable .0, omega arith, r .short, i .position)
 
 store-requires : tie.Need-store-requires Inv-loop μ-loop
 store-requires c κs = subst (λ (k : ℕ). k < length (c .before .before .loop .table)) (sym (c .cell-number .ensures)) (top-in (c .before .before .before .before .before .pre) (c .before .before .loop .inv))

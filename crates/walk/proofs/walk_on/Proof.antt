@@ -30,7 +30,7 @@ newly-requires : tie.Need-newly-requires Inv-loop μ-loop
 newly-requires c κs =
     let r = c .before .before .before .before .before .pre .0 in
     let b = step-bounds (ready-still r (c .before .loop .inv .standing)) in
-    (b .called-in .low, b .called-high, r .walkable .short, b .called-in .position, b .called-cell)
+    (b .called-in .variable .0, b .called-high, r .walkable .short, b .called-in .position, b .called-cell)
 
 add-count : tie.Need-add-count Inv-loop μ-loop
 add-count c =

@@ -13,8 +13,8 @@ newly-requires : tie.Need-newly-requires
 newly-requires c κs =
     let r = c .before .before .before .before .pre .0 in
     let f = r .few in
-    let h = r .within .high in
-    (r .within .low, omega arith, r .short, r .within .position, over-in r)
+    let h = r .within .variable .1 in
+    (r .within .variable .0, omega arith, r .short, r .within .position, over-in r)
 
 cell-number-requires : tie.Need-cell-number-requires
 cell-number-requires c κs = search needs

@@ -1,0 +1,3 @@
+-- Why what is next is so, and the line of a result.
+pub mod Turning
+pub mod LineFields

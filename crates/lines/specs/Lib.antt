@@ -1,0 +1,2 @@
+-- What is next at a pair, and its line.
+pub mod Turning

@@ -1,0 +1,2 @@
+-- How a field is written.
+pub mod Leading
