@@ -13,11 +13,11 @@ unfoldable pub text : List (List ℕ) → List ℕ
 text [] = []
 text (xs ∷ xss) = row 5 xs ++ text xss
 
--- "V, the count of variables; the start variable; the endmarker byte; 0; 0"
+-- "V, the count of variables ..; the start variable ..; the endmarker byte ..; 0; 0"
 abbrev pub headerNumbers : ℕ → ℕ → ℕ → List ℕ
 headerNumbers v start endmarker = v ∷ start ∷ endmarker ∷ 0 ∷ 0 ∷ []
 
--- "variable, kind, three operands", "Unused operands are 0." No line says that a rule is absent.
+-- "variable .., kind, three operands", "Unused operands are 0." No line says that a rule is absent.
 abbrev pub ruleNumbers : ℕ → Rule → List ℕ
 ruleNumbers A absent = []
 ruleNumbers A always = A ∷ 0 ∷ 0 ∷ 0 ∷ 0 ∷ []
@@ -48,7 +48,7 @@ abbrev pub Rising : ℕ → ℕ → List (ℕ × Rule) → Type 0
 Rising v before [] = Unit {0}
 Rising v before (r ∷ rs) = (before < r .0) × (r .0 ≤ v) × Fits v (r .1) × (r .1 ≡ absent → ⊥) × Rising v (r .0) rs
 
--- "V (1 to 256); the start variable (1 to V); the endmarker byte (0 to 255)"
+-- "V .. (1 to 256); the start variable (1 to V); the endmarker byte (0 to 255)"
 pub record Printable (v start endmarker : ℕ) (rules : List (ℕ × Rule)) : Type 0 where
   pub variables-in : (1 ≤ v) × (v ≤ 256)
   pub start-in : (1 ≤ start) × (start ≤ v)

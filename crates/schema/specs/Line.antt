@@ -9,7 +9,7 @@ use Rattle.grammar.specs.Rule.{Rule}
 use Rattle.schema.specs.Derivation.{Pair, _at_, Result, success, failure, gives, calls, act, second}
 use Rattle.schema.specs.Table.{Within}
 
--- "six fields": "variable, start, 0 success or 1 failure, end, the lines of the first and the second called pair".
+-- "six fields": "variable, start, 0 success or 1 failure, end .., the lines of the first and the second called pair".
 pub data Line : Type 0 where
   line : ℕ → ℕ → ℕ → ℕ → ℕ → ℕ → Line
 

@@ -85,7 +85,7 @@ pub data Ran : Type 0 where
   ran : RunOutcome → ℕ → Ran
 
 module _ (rule : ℕ → Rule) (input : List ℕ) where
-  -- "before each step: an outcome if there is one, then spent if moves equal the budget, then no frame if a push lacks room";
+  -- "before each step: an outcome if there is one, then *spent* if moves equal the budget .., then *no frame* if a push lacks room";
   -- left is the budget less the moves made.
   unfoldable pub run : ℕ → ℕ → State → Ran
   run zero room x = elim (step rule input x) [ outcome o ↦ ran (says o) (movesOf x) | move y ↦ ran spent (movesOf x) ]
