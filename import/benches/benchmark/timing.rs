@@ -8,7 +8,7 @@ const ROUNDS: usize = 21;
 /// A thing to measure: it makes so many calls.
 pub type Subject<'a> = (&'static str, Box<dyn FnMut(usize) + 'a>);
 
-/// The median nanoseconds of one call of each subject: in each round every subject takes its turn, for at least a fifth of a millisecond.
+/// The median nanoseconds of one call of each subject: in each round every subject takes its turn, for about a millisecond or one call.
 pub fn medians(subjects: &mut [Subject]) -> Vec<f64> {
     let calls: Vec<usize> = subjects.iter_mut().map(|(_, run)| enough(run)).collect();
     let mut times = vec![Vec::new(); subjects.len()];
@@ -27,7 +27,7 @@ fn enough(run: &mut dyn FnMut(usize)) -> usize {
     let start = Instant::now();
     run(3);
     let once = start.elapsed().as_nanos() as usize / 3 + 1;
-    (200_000 / once).max(1)
+    (1_000_000 / once).max(1)
 }
 
 /// The one in the middle.
