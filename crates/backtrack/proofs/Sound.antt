@@ -7,7 +7,7 @@ use native.Mathlib.Nat.{suc-ne-zero}
 use native.Mathlib.Omega.{arith}
 use lib.Dec.{ltb, eqb}
 use lib.ListN.{length, getD}
-use Rattle.grammar.specs.Class.{classOf}
+use Rattle.classes.specs.Class.{classOf}
 use Rattle.grammar.specs.Rule.{Rule, absent, always, never, byte, class, call}
 use Rattle.grammar.specs.Words.{ruleIn}
 use Rattle.schema.specs.Derivation.{Act, gives, stops, calls, success, failure, oneByte, actOf, act, _at_}

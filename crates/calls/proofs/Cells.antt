@@ -1,10 +1,10 @@
 -- Tables that are kept from question to question: a cell holds any answer, a loop or a halt too. To the walk such a cell is blank, and is walked
 -- again. Assumes nothing.
+use mathlib.Core.Bool.{true≢false}
 use mathlib.Core.Path.{_≡_, refl, sym, ap, _∙_, subst}
 use mathlib.Core.Logic.{_⊎_, inl, inr, _≢_, _↔_}
 use Prim.Native.Nat.{ℕ, _<_}
 use Rattle.calls.proofs.System.{System, calls, Answer, value, halts, loops, Means}
-use Rattle.calls.proofs.Clash.{clash}
 use Rattle.calls.proofs.Determinism.{means-one}
 use Rattle.calls.proofs.Reach.{Reach}
 use Rattle.calls.proofs.Table.{Mark, blank, opened, settled}
@@ -32,10 +32,10 @@ left o opened c = holds o
 left o (settled a) c = holds (value a)
 
 seen-value : {A E : Type 0} (c : Cell A E) (a : A) → seen c ≡ settled a → c ≡ holds (value a)
-seen-value empty a h = absurd (clash (cc))
+seen-value empty a h = absurd (true≢false (cc))
 seen-value (holds (value b)) a h = cc
-seen-value (holds (halts e)) a h = absurd (clash (cc))
-seen-value (holds loops) a h = absurd (clash (cc))
+seen-value (holds (halts e)) a h = absurd (true≢false (cc))
+seen-value (holds loops) a h = absurd (true≢false (cc))
 
 module _ {A E : Type 0} (σ : System ℕ A E) (N : ℕ) where
   open System σ using (kind)
@@ -53,10 +53,10 @@ module _ {A E : Type 0} (σ : System ℕ A E) (N : ℕ) where
   }
     where
       go : (c : Cell A E) → seen c ≡ opened → ⊥
-      go empty h = clash (cc)
-      go (holds (value b)) h = clash (cc)
-      go (holds (halts e)) h = clash (cc)
-      go (holds loops) h = clash (cc)
+      go empty h = true≢false (cc)
+      go (holds (value b)) h = true≢false (cc)
+      go (holds (halts e)) h = true≢false (cc)
+      go (holds loops) h = true≢false (cc)
 
   -- Two kept tables with the same cells filled are the same.
   pub cells-same : {C D : ℕ → Cell A E} → KeptCells C → KeptCells D → (x : ℕ) → x < N → ((C x ≢ empty) ↔ (D x ≢ empty)) → C x ≡ D x
@@ -64,8 +64,8 @@ module _ {A E : Type 0} (σ : System ℕ A E) (N : ℕ) where
     where
       go : (c d : Cell A E) → C x ≡ c → D x ≡ d → C x ≡ D x
       go empty empty e g = e ∙ sym g
-      go empty (holds p) e g = absurd (f .1 (λ h. clash (cc)) e)
-      go (holds o) empty e g = absurd (f .0 (λ h. clash (cc)) g)
+      go empty (holds p) e g = absurd (f .1 (λ h. true≢false (cc)) e)
+      go (holds o) empty e g = absurd (f .0 (λ h. true≢false (cc)) g)
       go (holds o) (holds p) e g = e ∙ ap holds (means-one σ x o p (k .true x o l e) (j .true x p l g)) ∙ sym g
 
   -- ---- After a question over kept cells.
@@ -123,23 +123,23 @@ module _ {A E : Type 0} (σ : System ℕ A E) (N : ℕ) where
         is m e = ap (λ (n : Mark A). left o n (C x)) e
 
         was : KeptOrReached σ N (λ x. seen (C x)) root x → (C x ≢ empty) ⊎ Reach σ root x
-        was (inl k) = inl (λ c. let h = k .1 in let g = ap seen c in clash (cc))
+        was (inl k) = inl (λ c. let h = k .1 in let g = ap seen c in true≢false (cc))
         was (inr r) = inr r
 
         there : (m : Mark A) → T x ≡ m → after x ≢ empty → (C x ≢ empty) ⊎ Reach σ root x
         there blank e n = inl (λ c. n (is blank e ∙ c))
-        there opened e n = was (end .only x l (λ b. clash (cc)))
-        there (settled a) e n = was (end .only x l (λ b. clash (cc)))
+        there opened e n = was (end .only x l (λ b. true≢false (cc)))
+        there (settled a) e n = was (end .only x l (λ b. true≢false (cc)))
 
         full : (m : Mark A) → T x ≡ m → T x ≢ blank → after x ≢ empty
         full blank e n h = n e
-        full opened e n h = let f = is opened e in clash (cc)
-        full (settled a) e n h = let f = is (settled a) e in clash (cc)
+        full opened e n h = let f = is opened e in true≢false (cc)
+        full (settled a) e n h = let f = is (settled a) e in true≢false (cc)
 
         stays : (m : Mark A) → T x ≡ m → C x ≢ empty → after x ≢ empty
         stays blank e n h = n (sym (is blank e) ∙ h)
-        stays opened e n h = let f = is opened e in clash (cc)
-        stays (settled a) e n h = let f = is (settled a) e in clash (cc)
+        stays opened e n h = let f = is opened e in true≢false (cc)
+        stays (settled a) e n h = let f = is (settled a) e in true≢false (cc)
 
         back : (C x ≢ empty) ⊎ Reach σ root x → after x ≢ empty
         back (inl n) = stays (T x) refl n

@@ -1,7 +1,7 @@
 -- A pair has one value, one count of steps, one height, and one answer at most. Assumes nothing.
+use mathlib.Core.Bool.{true≢false}
 use mathlib.Core.Path.{_≡_, refl, sym, ap, ap₂}
 use Prim.Native.Nat.{ℕ}
-use Rattle.calls.proofs.Clash.{clash}
 use Rattle.calls.proofs.System.{System, Answer, value, halts, loops, Done, leaf, node, Halt, stop, by-first, by-second, Means}
 
 module _ {X A E : Type 0} (σ : System X A E) where
@@ -9,8 +9,8 @@ module _ {X A E : Type 0} (σ : System X A E) where
 
   done-same : {x y : X} {a b : A} {k l g h : ℕ} → x ≡ y → Done σ x a k g → Done σ y b l h → (a ≡ b) × (k ≡ l) × (g ≡ h)
   done-same r (leaf p) (leaf q) = (cc, refl, refl)
-  done-same r (leaf p) (node q d e) = absurd (clash (cc))
-  done-same r (node p d e) (leaf q) = absurd (clash (cc))
+  done-same r (leaf p) (node q d e) = absurd (true≢false (cc))
+  done-same r (node p d e) (leaf q) = absurd (true≢false (cc))
   done-same r (node p d e) (node q d' e') =
       let i = done-same (ap first r) d d' in
       let j = done-same (ap₂ second r (i .0)) e e' in
@@ -26,21 +26,21 @@ module _ {X A E : Type 0} (σ : System X A E) where
 
   -- A halt and a value exclude one another.
   pub halt-not-done : {e : E} {x y : X} {a : A} {k h : ℕ} → x ≡ y → Halt σ e x → Done σ y a k h → ⊥
-  halt-not-done r (stop p) (leaf q) = clash (cc)
-  halt-not-done r (stop p) (node q d f) = clash (cc)
-  halt-not-done r (by-first p i) (leaf q) = clash (cc)
+  halt-not-done r (stop p) (leaf q) = true≢false (cc)
+  halt-not-done r (stop p) (node q d f) = true≢false (cc)
+  halt-not-done r (by-first p i) (leaf q) = true≢false (cc)
   halt-not-done r (by-first p i) (node q d f) = halt-not-done (ap first r) i d
-  halt-not-done r (by-second p c i) (leaf q) = clash (cc)
+  halt-not-done r (by-second p c i) (leaf q) = true≢false (cc)
   halt-not-done r (by-second p c i) (node q d f) = halt-not-done (ap₂ second r (value-same (ap first r) c d)) i f
 
   halt-same : {e f : E} {x y : X} → x ≡ y → Halt σ e x → Halt σ f y → e ≡ f
   halt-same r (stop p) (stop q) = cc
-  halt-same r (stop p) (by-first q i) = absurd (clash (cc))
-  halt-same r (stop p) (by-second q c i) = absurd (clash (cc))
-  halt-same r (by-first p i) (stop q) = absurd (clash (cc))
+  halt-same r (stop p) (by-first q i) = absurd (true≢false (cc))
+  halt-same r (stop p) (by-second q c i) = absurd (true≢false (cc))
+  halt-same r (by-first p i) (stop q) = absurd (true≢false (cc))
   halt-same r (by-first p i) (by-first q j) = halt-same (ap first r) i j
   halt-same r (by-first p i) (by-second q c j) = absurd (halt-not-done (ap first r) i c)
-  halt-same r (by-second p c i) (stop q) = absurd (clash (cc))
+  halt-same r (by-second p c i) (stop q) = absurd (true≢false (cc))
   halt-same r (by-second p c i) (by-first q j) = absurd (halt-not-done (ap first (sym r)) j c)
   halt-same r (by-second p c i) (by-second q d j) = halt-same (ap₂ second r (value-same (ap first r) c d)) i j
 

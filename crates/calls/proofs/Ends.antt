@@ -1,10 +1,10 @@
 -- What the walk has shown where it ends: with no open pair, at a pair met a second time, at a stuck pair. Assumes nothing.
+use mathlib.Core.Bool.{true≢false}
 use mathlib.Core.Path.{_≡_, refl, sym, subst}
 use mathlib.Core.Logic.{inl, inr, _≢_}
 use mathlib.Core.List.{List, [], _∷_}
 use Prim.Native.Nat.{ℕ, _<_}
 use Rattle.calls.proofs.System.{System, stuck, calls, Answer, value, halts, loops, Done, NotDone, Halt, stop, Loop, Means}
-use Rattle.calls.proofs.Clash.{clash}
 use Rattle.calls.proofs.Determinism.{done-one, halt-not-done}
 use Rattle.calls.proofs.Chain.{chain-loops, halt-up}
 use Rattle.calls.proofs.Reach.{Reach, itself, reach-first, reach-second}
@@ -56,15 +56,15 @@ module _ {A E : Type 0} (σ : System ℕ A E) where
       -- Where each open pair has no value, and calls an open pair if it calls at all, the pairs reached are those that are not blank.
       module _ (stays : (x : ℕ) → In x s → NotDone σ x) (stalled : (x : ℕ) → In x s → kind x ≡ calls → (y : ℕ) × In y s × Link σ T x y) where
         link-first-full : {x y : ℕ} → In y s → Link σ T x y → T (first x) ≢ blank
-        link-first-full {y = y} i (link-first q r) b = let o = inv .on-open y i in clash (cc)
-        link-first-full i (link-second q t r) b = clash (cc)
+        link-first-full {y = y} i (link-first q r) b = let o = inv .on-open y i in true≢false (cc)
+        link-first-full i (link-second q t r) b = true≢false (cc)
 
         link-second-full : {x y : ℕ} {a : A} {k h : ℕ} → x < N → In y s → Link σ T x y → Done σ (first x) a k h → T (second x a) ≢ blank
         link-second-full {y = y} {a = a} {k = k} {h = h} l i (link-first q r) d = absurd (subst (NotDone σ) r (stays y i) a k h d)
         link-second-full {x = x} {y = y} l i (link-second {a = c} q t r) d =
             λ b. let o = inv .on-open y i in
             let e = done-one σ (inv .sound (first x) c (bounded .first-in x l q) t .right .2) d .0 in
-            clash (cc)
+            true≢false (cc)
 
         full-first : (x : ℕ) (m : Mark A) → T x ≡ m → x < N → T x ≢ blank → kind x ≡ calls → T (first x) ≢ blank
         full-first x blank e l f q = absurd (f e)
@@ -73,7 +73,7 @@ module _ {A E : Type 0} (σ : System ℕ A E) where
             link-first-full (y .1) (y .2)
         full-first x (settled c) e l f q =
             λ b. let t = inv .sound x c l e .closed q .2 in
-            clash (cc)
+            true≢false (cc)
 
         full-second : {a : A} {k h : ℕ} (x : ℕ) (m : Mark A) → T x ≡ m → x < N → T x ≢ blank → kind x ≡ calls → Done σ (first x) a k h → T (second x a) ≢ blank
         full-second x blank e l f q d = absurd (f e)
@@ -84,7 +84,7 @@ module _ {A E : Type 0} (σ : System ℕ A E) where
             λ b. let both = inv .sound x c l e .closed q in
             let u = done-one σ (inv .sound (first x) (both .0) (bounded .first-in x l q) (both .2) .right .2) d .0 in
             let t = both .3 in
-            clash (cc)
+            true≢false (cc)
 
         reach-full : {x : ℕ} → root < N → Reach σ root x → (x < N) × (T x ≢ blank)
         reach-full l itself = (l, inv .root-full)
@@ -152,7 +152,7 @@ module _ {A E : Type 0} (σ : System ℕ A E) where
           halt-not z i a l h d = halt-not-done σ refl (all-halt z i) d
 
           halt-on : (z : ℕ) → In z (x ∷ s) → kind z ≡ calls → (w : ℕ) × In w (x ∷ s) × Link σ T z w
-          halt-on z (inl r) q = absurd (clash (cc))
+          halt-on z (inl r) q = absurd (true≢false (cc))
           halt-on z (inr i) q = trail-link σ (inv .trail) i
 
           -- The question halts, and names the top.

@@ -1,10 +1,10 @@
 -- Following the waiting from a question: it comes to one pair, with one answer, and that is the question's. Assumes nothing.
+use mathlib.Core.Bool.{true≢false}
 use mathlib.Core.Path.{_≡_, refl, sym, ap, ap₂, _∙_, subst}
 use mathlib.Core.Logic.{_⊎_, inl, inr}
 use mathlib.Core.List.{List, [], _∷_, List·Memᴰ, List·Memᴰ·not-nil, List·Memᴰ·cases-cons}
 use Prim.Native.Nat.{ℕ}
 use Rattle.calls.proofs.System.{System, stuck, calls, Answer, value, halts, loops, Done, NotDone, Halt, stop, Loop}
-use Rattle.calls.proofs.Clash.{clash}
 use Rattle.calls.proofs.Determinism.{value-same}
 use Rattle.calls.proofs.Chain.{Calls, to-first, to-second, halt-up, chain-loops}
 
@@ -57,8 +57,8 @@ module _ {X A E : Type 0} (σ : System X A E) where
   waits-calls (for-second q d r) = to-second q d r
 
   waits-not-stuck : {x y : X} {e : E} → Waits x y → kind x ≡ stuck e → ⊥
-  waits-not-stuck (for-first q n r) p = clash (cc)
-  waits-not-stuck (for-second q d r) p = clash (cc)
+  waits-not-stuck (for-first q n r) p = true≢false (cc)
+  waits-not-stuck (for-second q d r) p = true≢false (cc)
 
   follow-same : {s t : List X} {x y : X} {o p : Answer A E} {z w : X} → s ≡ t → x ≡ y → Follow s x o z → Follow t y p w → (o ≡ p) × (z ≡ w)
   follow-same q r (again i) (again j) = (refl, r)

@@ -1,10 +1,10 @@
 -- What holds before each step of the walk: it holds at the start, and the two kinds of step keep it. Assumes nothing.
+use mathlib.Core.Bool.{true≢false}
 use mathlib.Core.Path.{_≡_, refl, sym, ap, _∙_, subst}
 use mathlib.Core.Logic.{_⊎_, inl, inr, _≢_}
 use mathlib.Core.List.{List, [], _∷_}
 use Prim.Native.Nat.{ℕ, _<_}
 use Rattle.calls.proofs.System.{System, calls, value, node, Means}
-use Rattle.calls.proofs.Clash.{clash}
 use Rattle.calls.proofs.Chain.{Calls, to-first, to-second}
 use Rattle.calls.proofs.Reach.{Reach, itself, reach-on}
 use Rattle.calls.proofs.Follow.{In}
@@ -32,7 +32,7 @@ module _ {A E : Type 0} (σ : System ℕ A E) (N : ℕ) where
 
   -- A blank table is one.
   pub blank-kept : Kept (λ x. blank)
-  blank-kept = record { sound = λ x a l h. absurd (clash (cc)); no-open = λ x l h. clash (cc) }
+  blank-kept = record { sound = λ x a l h. absurd (true≢false (cc)); no-open = λ x l h. true≢false (cc) }
 
   -- What a pair with a cell calls has a cell.
   pub record Bounded : Type 0 where
@@ -70,26 +70,26 @@ module _ {A E : Type 0} (σ : System ℕ A E) (N : ℕ) where
 
     -- The top is reached.
     pub top-reach : Reach σ root x
-    top-reach = elim (inv .only x top-in (λ b. let o = top-open in clash (cc))) [
-      | inl k ↦ let h = inv .keeps x (k .0) (k .1) in let o = top-open in absurd (clash (cc))
+    top-reach = elim (inv .only x top-in (λ b. let o = top-open in true≢false (cc))) [
+      | inl k ↦ let h = inv .keeps x (k .0) (k .1) in let o = top-open in absurd (true≢false (cc))
       | inr r ↦ r
     ]
 
     -- A blank pair that the top calls is opened, and becomes the top.
     pub open-next : {U : ℕ → Mark A} {y : ℕ} → Link σ T x y → T y ≡ blank → Put T y opened U → Inv O root U (y ∷ x ∷ s)
     open-next {U} {y} l e p =
-        let g : Grows T U = grows-put (λ a h. clash (cc)) p in
+        let g : Grows T U = grows-put (λ a h. true≢false (cc)) p in
         let c = link-calls bounded (inv .sound) top-in l in
         record {
-          sound = sound-put (inv .sound) g p (λ a h. absurd (clash (cc)));
-          trail = push (trail-grows σ g (inv .trail)) (λ i. let j = inv .on-open y i in clash (cc)) (link-grows σ g l);
+          sound = sound-put (inv .sound) g p (λ a h. absurd (true≢false (cc)));
+          trail = push (trail-grows σ g (inv .trail)) (λ i. let j = inv .on-open y i in true≢false (cc)) (link-grows σ g l);
           open-on = λ z k h. elim (put-cases p z) [
             | inl d ↦ inl (d .0)
             | inr d ↦ inr (inv .open-on z k (sym (d .1) ∙ h))
           ];
           on-open = λ z i. elim i [
             | inl r ↦ ap U r ∙ p .there
-            | inr j ↦ let o = inv .on-open z j in p .others z (λ r. clash (cc)) ∙ o
+            | inr j ↦ let o = inv .on-open z j in p .others z (λ r. true≢false (cc)) ∙ o
           ];
           below = λ z i. elim i [
             | inl r ↦ subst (λ (u : ℕ). u < N) (sym r) (c .0)
@@ -101,7 +101,7 @@ module _ {A E : Type 0} (σ : System ℕ A E) (N : ℕ) where
             | inr d ↦ inv .only z k (λ b. h (d .1 ∙ b))
           ];
           root-full = λ b. elim (put-cases p root) [
-            | inl d ↦ let h = d .1 in clash (cc)
+            | inl d ↦ let h = d .1 in true≢false (cc)
             | inr d ↦ inv .root-full (sym (d .1) ∙ b)
           ];
         }
@@ -110,12 +110,12 @@ module _ {A E : Type 0} (σ : System ℕ A E) (N : ℕ) where
     pub settle-top : {U : ℕ → Mark A} {a : A} → Fits σ T x a → Put T x (settled a) U → Inv O root U s
     settle-top {U} {a} f p =
         let o = top-open in
-        let g : Grows T U = grows-put (λ a h. clash (cc)) p in
+        let g : Grows T U = grows-put (λ a h. true≢false (cc)) p in
         record {
           sound = sound-put (inv .sound) g p (λ b h. let e : a ≡ b = cc in subst (Fits σ T x) e f);
           trail = trail-grows σ g (trail-pop σ (inv .trail));
           open-on = λ z k h. elim (put-cases p z) [
-            | inl d ↦ let h' = d .1 in absurd (clash (cc))
+            | inl d ↦ let h' = d .1 in absurd (true≢false (cc))
             | inr d ↦ off-top z (d .0) (inv .open-on z k (sym (d .1) ∙ h))
           ];
           on-open = λ z i. p .others z (λ r. trail-fresh σ (inv .trail) (subst (λ (u : ℕ). In u s) r i)) ∙ inv .on-open z (inr i);
@@ -126,7 +126,7 @@ module _ {A E : Type 0} (σ : System ℕ A E) (N : ℕ) where
             | inr d ↦ inv .only z k (λ b. h (d .1 ∙ b))
           ];
           root-full = λ b. elim (put-cases p root) [
-            | inl d ↦ let h = d .1 in clash (cc)
+            | inl d ↦ let h = d .1 in true≢false (cc)
             | inr d ↦ inv .root-full (sym (d .1) ∙ b)
           ];
         }
@@ -153,9 +153,9 @@ module _ {A E : Type 0} (σ : System ℕ A E) (N : ℕ) where
     -- The invariant at the start, the asked pair opened.
     pub inv-start : {T : ℕ → Mark A} → root < N → O root ≡ blank → Put O root opened T → Inv O root T (root ∷ [])
     inv-start {T} root-in e p =
-        let g : Grows O T = grows-put (λ a h. clash (cc)) p in
+        let g : Grows O T = grows-put (λ a h. true≢false (cc)) p in
         record {
-          sound = sound-put (kept .sound) g p (λ a h. absurd (clash (cc)));
+          sound = sound-put (kept .sound) g p (λ a h. absurd (true≢false (cc)));
           trail = start;
           open-on = λ z l h. elim (put-cases p z) [
             | inl d ↦ inl (d .0)
@@ -174,7 +174,7 @@ module _ {A E : Type 0} (σ : System ℕ A E) (N : ℕ) where
             | inl d ↦ inr (subst (Reach σ root) (sym (d .0)) itself)
             | inr d ↦ inl (was-settled z (O z) refl l (λ b. h (d .1 ∙ b)))
           ];
-          root-full = λ b. let h = p .there in clash (cc);
+          root-full = λ b. let h = p .there in true≢false (cc);
         }
 
     -- The asked pair was settled before: nothing is open.
@@ -187,5 +187,5 @@ module _ {A E : Type 0} (σ : System ℕ A E) (N : ℕ) where
       below = λ z i. absurd i;
       keeps = λ z a h. h;
       only = λ z l h. inl (was-settled z (O z) refl l h);
-      root-full = λ b. clash (cc);
+      root-full = λ b. true≢false (cc);
     }

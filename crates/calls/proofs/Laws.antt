@@ -1,9 +1,9 @@
 -- What follows from the end of a question: which cells hold what, how many are new, and that there is one such end. Assumes nothing.
+use mathlib.Core.Bool.{true≢false}
 use mathlib.Core.Path.{_≡_, refl, sym, ap, _∙_, subst}
 use mathlib.Core.Logic.{_⊎_, inl, inr, _≢_, _↔_}
 use Prim.Native.Nat.{ℕ, _<_}
 use Rattle.calls.proofs.System.{System, Answer, value, halts, loops, Means}
-use Rattle.calls.proofs.Clash.{clash}
 use Rattle.calls.proofs.Determinism.{done-one, halt-not-done, means-one}
 use Rattle.calls.proofs.Reach.{Reach, itself}
 use Rattle.calls.proofs.Follow.{Named, follow-one}
@@ -38,7 +38,7 @@ module _ {A E : Type 0} (σ : System ℕ A E) where
     full-iff x l = (
       end .only x l,
       λ h. elim h [
-        | inl k ↦ λ b. let t = end .keeps x (k .0) (k .1) in clash (cc)
+        | inl k ↦ λ b. let t = end .keeps x (k .0) (k .1) in true≢false (cc)
         | inr r ↦ end .found x r .1
       ],
     )
@@ -57,7 +57,7 @@ module _ {A E : Type 0} (σ : System ℕ A E) where
     settled-iff x a l = (there, back)
       where
         there : T x ≡ settled a → (O x ≡ settled a) ⊎ (Reach σ root x × Means σ x (value a))
-        there h = elim (end .only x l (λ b. clash (cc))) [
+        there h = elim (end .only x l (λ b. true≢false (cc))) [
           | inl k ↦ let t = end .keeps x (k .0) (k .1) in let e : k .0 ≡ a = cc in inl (subst (λ (b : A). O x ≡ settled b) e (k .1))
           | inr r ↦ inr (r, end .sound x a l h .right)
         ]
@@ -80,7 +80,7 @@ module _ {A E : Type 0} (σ : System ℕ A E) where
     fresh-count = count-map (λ x l. (λ h. (h .0, newly x (h .0) (end .only x l (h .1))), λ h. (h .0, end .found x (h .1) .1))) (count-fresh-counts O T N)
       where
         newly : (x : ℕ) → O x ≡ blank → KeptOrReached σ N O root x → Reach σ root x
-        newly x b (inl k) = let h = k .1 in absurd (clash (cc))
+        newly x b (inl k) = let h = k .1 in absurd (true≢false (cc))
         newly x b (inr r) = r
 
     -- Any table that has settled what T has is sound: T itself, and T with its open cells blanked.
@@ -104,12 +104,12 @@ module _ {A E : Type 0} (σ : System ℕ A E) where
       where
         go : (m n : Mark A) → T x ≡ m → U x ≡ n → T x ≡ U x
         go blank blank e f = e ∙ sym f
-        go blank opened e f = absurd (full-iff N end x l .1 (full-iff N end' x l .0 (λ b. clash (cc))) e)
-        go blank (settled b) e f = absurd (full-iff N end x l .1 (full-iff N end' x l .0 (λ b. clash (cc))) e)
-        go opened blank e f = absurd (full-iff N end' x l .1 (full-iff N end x l .0 (λ b. clash (cc))) f)
+        go blank opened e f = absurd (full-iff N end x l .1 (full-iff N end' x l .0 (λ b. true≢false (cc))) e)
+        go blank (settled b) e f = absurd (full-iff N end x l .1 (full-iff N end' x l .0 (λ b. true≢false (cc))) e)
+        go opened blank e f = absurd (full-iff N end' x l .1 (full-iff N end x l .0 (λ b. true≢false (cc))) f)
         go opened opened e f = e ∙ sym f
         go opened (settled b) e f = absurd (stays-not-done o (end .opens x l e) (end' .sound x b l f .right))
-        go (settled a) blank e f = absurd (full-iff N end' x l .1 (full-iff N end x l .0 (λ b. clash (cc))) f)
+        go (settled a) blank e f = absurd (full-iff N end' x l .1 (full-iff N end x l .0 (λ b. true≢false (cc))) f)
         go (settled a) opened e f = absurd (stays-not-done p (end' .opens x l f) (end .sound x a l e .right))
         go (settled a) (settled b) e f = e ∙ ap settled (done-one σ (end .sound x a l e .right .2) (end' .sound x b l f .right .2) .0) ∙ sym f
 

@@ -1,5 +1,4 @@
 -- Why a table walk finds what derivations say: the theory of systems of deterministic calls.
-pub mod Clash
 pub mod System
 pub mod Determinism
 pub mod Chain

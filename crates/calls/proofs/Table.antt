@@ -1,10 +1,10 @@
 -- A table of marks, what it is to put a mark into it, what the walk has still to do, and how many cells are new. Assumes nothing.
+use mathlib.Core.Bool.{true≢false}
 use mathlib.Core.Path.{_≡_, refl, ap, _∙_}
 use mathlib.Core.Logic.{_⊎_, inl, inr, _≢_}
 use Prim.Native.Nat.{ℕ, _*_, _<_, _≤_}
 use native.Mathlib.Decide.{ℕ-discrete}
 use native.Mathlib.Omega.{arith}
-use Rattle.calls.proofs.Clash.{clash}
 use Rattle.calls.proofs.Count.{sum, sum-put, sum-le, Count, count-sum}
 
 -- A cell of the walk: blank, opened and not yet settled, or settled with a value.
@@ -95,10 +95,10 @@ module _ {A : Type 0} where
   fresh-test : (l m : Mark A) → (((l ≡ blank) × (m ≢ blank)) × (fresh l m ≡ 1)) ⊎ ((¬ ((l ≡ blank) × (m ≢ blank))) × (fresh l m ≡ 0))
   unfolding fresh
   fresh-test blank blank = inr (λ h. h .1 refl, refl)
-  fresh-test blank opened = inl ((refl, λ e. clash (cc)), refl)
-  fresh-test blank (settled a) = inl ((refl, λ e. clash (cc)), refl)
-  fresh-test opened m = inr (λ h. let e = h .0 in clash (cc), refl)
-  fresh-test (settled b) m = inr (λ h. let e = h .0 in clash (cc), refl)
+  fresh-test blank opened = inl ((refl, λ e. true≢false (cc)), refl)
+  fresh-test blank (settled a) = inl ((refl, λ e. true≢false (cc)), refl)
+  fresh-test opened m = inr (λ h. let e = h .0 in true≢false (cc), refl)
+  fresh-test (settled b) m = inr (λ h. let e = h .0 in true≢false (cc), refl)
 
   -- It counts them.
   pub count-fresh-counts : (T U : ℕ → Mark A) (n : ℕ) → Count (λ x. (T x ≡ blank) × (U x ≢ blank)) n (count-fresh T U n)

@@ -1,10 +1,10 @@
 -- The trail of open pairs, each called by the one under it; and values that fit a table. Assumes nothing.
+use mathlib.Core.Bool.{true≢false}
 use mathlib.Core.Path.{_≡_, refl, sym, ap, _∙_, subst}
 use mathlib.Core.Logic.{inl, inr, _≢_}
 use mathlib.Core.List.{List, [], _∷_}
 use Prim.Native.Nat.{ℕ}
 use Rattle.calls.proofs.System.{System, gives, calls, value, leaf, Means}
-use Rattle.calls.proofs.Clash.{clash}
 use Rattle.calls.proofs.Follow.{In}
 use Rattle.calls.proofs.Table.{Mark, settled, Put, put-cases}
 
@@ -36,7 +36,7 @@ module _ {A E : Type 0} (σ : System ℕ A E) where
 
   -- The value of a leaf fits.
   pub leaf-fits : {T : ℕ → Mark A} {x : ℕ} {a : A} → kind x ≡ gives a → Fits T x a
-  leaf-fits q = record { right = (1, 1, leaf q); closed = λ q'. absurd (clash (cc)) }
+  leaf-fits q = record { right = (1, 1, leaf q); closed = λ q'. absurd (true≢false (cc)) }
 
   -- What fits a table fits one that holds more;
   pub fits-grows : {T U : ℕ → Mark A} {x : ℕ} {a : A} → Grows T U → Fits T x a → Fits U x a

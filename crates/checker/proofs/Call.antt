@@ -1,11 +1,11 @@
 -- Demand 2 for readings, and the checker's part of demand 3: of any result that meets the checker's promise on a question that is not refused.
 -- Assumes nothing.
+use mathlib.Core.Bool.{true≢false}
 use mathlib.Core.List.{List}
 use mathlib.Core.Logic.{_↔_}
 use mathlib.Core.Path.{_≡_, refl, sym, ap, _∙_}
 use Prim.Native.Nat.{ℕ}
 use lib.ListN.{length}
-use Rattle.calls.proofs.Clash.{clash}
 use Rattle.grammar.specs.Refusal.{refused, accepted}
 use Rattle.grammar.specs.Sheet.{Grammar}
 use Rattle.schema.specs.Derivation.{Pair, _at_, Result, success, failure, Outcome, result, Has}
@@ -21,8 +21,8 @@ use Rattle.checker.proofs.Certificate.{check-refused, check-judged}
 -- A claim is of one result.
 claimed-one : (x : Pair) (r t : Result) → claimed x r ≡ claimed x t → r ≡ t
 claimed-one (A at p) (success e) (success f) h = cc
-claimed-one (A at p) (success e) failure h = absurd (clash (cc))
-claimed-one (A at p) failure (success f) h = absurd (clash (cc))
+claimed-one (A at p) (success e) failure h = absurd (true≢false (cc))
+claimed-one (A at p) failure (success f) h = absurd (true≢false (cc))
 claimed-one (A at p) failure failure h = refl
 
 -- A certificate that a pair has a result proves it.

@@ -1,5 +1,5 @@
 -- A certificate passes exactly if each of its lines follows and the last is the pair in question. Assumes nothing.
-use mathlib.Core.Bool.{true, false, _&&_, and-eq-true-iff}
+use mathlib.Core.Bool.{true, false, _&&_, and-eq-true-iff, true≢false}
 use mathlib.Core.List.{List, [], _∷_}
 use mathlib.Core.Option.{Option, none, some}
 use mathlib.Core.Path.{_≡_, refl, sym, ap, _∙_}
@@ -8,7 +8,6 @@ use native.Mathlib.Omega.{arith}
 use lib.Dec.{eqb, leb}
 use lib.ListN.{length}
 use borrow.Author.Tests.{eqb-true, eq-eqb, not-false}
-use Rattle.calls.proofs.Clash.{clash}
 use Rattle.grammar.specs.Refusal.{accepted}
 use Rattle.grammar.specs.Rule.{Rule, within}
 use Rattle.grammar.specs.Sheet.{Grammar}
@@ -74,7 +73,7 @@ module _ (g : Grammar) (input s : List ℕ) (x : Pair) where
   proper-of p = go (lines s) refl
     where
       go : (k : ℕ) → lines s ≡ k → (t : Result) × (claimOf (lineAt s (lines s)) ≡ claimed x t) × Proper g input s x t
-      go zero e = let n = no-pair x in let l = rw e at (p .last) in absurd (clash (cc))
+      go zero e = let n = no-pair x in let l = rw e at (p .last) in absurd (true≢false (cc))
       go (suc m) e =
           let passed : Passed (g .rule) (g .variables) input s (suc m) = rw e at (p .passed) in
           let c = none-append (lineCondition (g .rule) (g .variables) input s) (linesOrder m) (lineOrder (suc m)) .0 passed in
@@ -114,7 +113,7 @@ module _ (g : Grammar) (input s : List ℕ) (x : Pair) where
 
       found : (k : ℕ) → length (p .lines) ≡ k → numbered (p .lines) k ≡ some (lineOf x t (p .last .first) (p .last .second))
           → lineAt s k ≡ some (lineOf x t (p .last .first) (p .last .second))
-      found zero e f = absurd (clash (cc))
+      found zero e f = absurd (true≢false (cc))
       found (suc m) e f = p .reads .line m (omega arith) ∙ f
 
       here : lineAt s (lines s) ≡ some (lineOf x t (p .last .first) (p .last .second))

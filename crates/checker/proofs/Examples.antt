@@ -4,7 +4,7 @@ use mathlib.Core.Path.{_≡_, refl}
 use Prim.Native.Nat.{ℕ}
 use lib.ListN.{drop}
 use Rattle.columns.specs.Column.{leading, column, row, digitsAfter, number, field, fields}
-use Rattle.grammar.specs.Class.{classIn, classOf}
+use Rattle.classes.specs.Class.{classIn, classOf}
 use Rattle.grammar.specs.Refusal.{Checked, refused, accepted, checked}
 use Rattle.grammar.specs.Rule.{ruleOf}
 use Rattle.grammar.specs.Sheet.{lineAt, ruleWithin, openLine, notLines, headerOut, variableOut, condition, ruleOrder, sheetOrder}

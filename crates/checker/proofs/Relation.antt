@@ -1,5 +1,5 @@
 -- The test whether a line follows is the relation, both ways. Assumes nothing.
-use mathlib.Core.Bool.{Bool, true, false, cond, _&&_, false≢true, and-eq-true-iff}
+use mathlib.Core.Bool.{Bool, true, false, cond, _&&_, false≢true, and-eq-true-iff, true≢false}
 use mathlib.Core.List.{List}
 use mathlib.Core.Logic.{_↔_}
 use mathlib.Core.Option.{Option, none, some}
@@ -8,7 +8,6 @@ use Prim.Native.Nat.{ℕ}
 use lib.Dec.{eqb, leb}
 use lib.ListN.{length}
 use borrow.Author.Tests.{eqb-true, leb-true, eq-eqb, le-leb}
-use Rattle.calls.proofs.Clash.{clash}
 use Rattle.grammar.specs.Rule.{Rule, within}
 use Rattle.grammar.proofs.Fitting.{within-bounds, within-both}
 use Rattle.schema.specs.Derivation.{Pair, _at_, Result, success, failure, Act, gives, stops, calls, act, second}
@@ -38,16 +37,16 @@ result-line (A at p) (line B q flag e i j) r h = go (eqb B A) (eqb q p) (eqb fla
     go : (a b c d f : Bool) → eqb B A ≡ a → eqb q p ≡ b → eqb flag 0 ≡ c → eqb flag 1 ≡ d → eqb e p ≡ f
         → cond (a && b) (cond c (some (success e)) (cond (d && f) (some failure) none)) none ≡ some r
         → (i′ : ℕ) × (j′ : ℕ) × (line B q flag e i j ≡ lineOf (A at p) r i′ j′)
-    go false b c d f u v w y z h = absurd (clash (cc))
-    go true false c d f u v w y z h = absurd (clash (cc))
+    go false b c d f u v w y z h = absurd (true≢false (cc))
+    go true false c d f u v w y z h = absurd (true≢false (cc))
     go true true true d f u v w y z h =
         let k = eqb-true B A u in
         let m = eqb-true q p v in
         let n = eqb-true flag 0 w in
         let t : success e ≡ r = cc in
         (i, j, rw (← t) (cc))
-    go true true false false f u v w y z h = absurd (clash (cc))
-    go true true false true false u v w y z h = absurd (clash (cc))
+    go true true false false f u v w y z h = absurd (true≢false (cc))
+    go true true false true false u v w y z h = absurd (true≢false (cc))
     go true true false true true u v w y z h =
         let k = eqb-true B A u in
         let m = eqb-true q p v in
@@ -70,7 +69,7 @@ module _ (earlier : List Line) where
       nothing (A at p) = refl
 
       go : (o : Option Line) → numbered earlier i ≡ o → resultFor x o ≡ some r → Stands earlier i x r
-      go none e h = let n = nothing x in absurd (clash (cc))
+      go none e h = let n = nothing x in absurd (true≢false (cc))
       go (some l) e h = let m = result-line x l r h in record { first = m .0; second = m .1; line = e ∙ ap some (m .2) }
 
   stands-result : (x : Pair) (i : ℕ) (r : Result) → Stands earlier i x r → resultFor x (numbered earlier i) ≡ some r
@@ -82,18 +81,18 @@ module _ (earlier : List Line) where
     follows-by A p i j r (gives t) l w e h q = go (eqb i 0) (eqb j 0) refl refl h
       where
         go : (b c : Bool) → eqb i 0 ≡ b → eqb j 0 ≡ c → cond (b && c) (some t) none ≡ some r → Follows rule v input earlier l
-        go false c x y h = absurd (clash (cc))
-        go true false x y h = absurd (clash (cc))
+        go false c x y h = absurd (true≢false (cc))
+        go true false x y h = absurd (true≢false (cc))
         go true true x y h =
             let k = eqb-true i 0 x in
             let m = eqb-true j 0 y in
             let z : t ≡ r = cc in
             by-leaf {r = r} w (e ∙ ap gives z) (rw (k, m) at q)
-    follows-by A p i j r (stops t) l w e h q = absurd (clash (cc))
+    follows-by A p i j r (stops t) l w e h q = absurd (true≢false (cc))
     follows-by A p i j r (calls B C D) l w e h q = go (resultFor (B at p) (numbered earlier i)) refl h
       where
         go : (o : Option Result) → resultFor (B at p) (numbered earlier i) ≡ o → resultThen (numbered earlier) C D p j o ≡ some r → Follows rule v input earlier l
-        go none f h = absurd (clash (cc))
+        go none f h = absurd (true≢false (cc))
         go (some t) f h = by-call w e (stands (B at p) i t f) (stands (second C D p t) j r h) q
 
     says-own : (A p i j : ℕ) (r : Result) → Within v (length input) A p → resultBy (numbered earlier) (act rule input (A at p)) p i j ≡ some r

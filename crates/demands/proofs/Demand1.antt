@@ -1,12 +1,12 @@
 -- Demand 1: each call is refused with a number exactly under document 01's condition, where no condition that comes earlier in the order holds,
 -- and every lent slice is then as it was; of any results that meet the calls' contracts. Assumes nothing.
+use mathlib.Core.Bool.{true≢false}
 use mathlib.Core.List.{List, _∷_}
 use mathlib.Core.Logic.{_↔_}
 use mathlib.Core.Path.{_≡_, refl, sym, ap, _∙_, subst}
 use Prim.Native.Nat.{ℕ}
 use native.Mathlib.Omega.{arith}
 use lib.ListN.{length}
-use Rattle.calls.proofs.Clash.{clash}
 use Rattle.grammar.specs.Refusal.{Checked, refused, accepted}
 use Rattle.grammar.specs.Sheet.{Grammar}
 use Rattle.grammar.specs.Order.{FirstHolds}
@@ -15,11 +15,11 @@ use Rattle.schema.specs.Handed.{Handed, Refuses, handed, asked, questionOf, ver
 use Rattle.schema.specs.Machine.{Ran}
 use Rattle.schema.proofs.CallRefusals.{call-refused}
 use Rattle.schema.proofs.Codes.{verdict-code-most}
-use Rattle.walk.specs.Reply.{Reply, reply, told}
+use Rattle.finish.specs.Reply.{Reply, reply, told}
 use Rattle.memo.specs.Answer.{Replies, QuestionPromise}
 use Rattle.memo.specs.Verdict.{numbers, judged, Judges, VerdictPromise}
 use Rattle.writer.specs.Writer.{RepliesWriting, WriterPromise}
-use Rattle.walk.specs.declared.Answer.{Answer}
+use Rattle.finish.specs.declared.Answer.{Answer}
 use Rattle.writer.specs.declared.Written.{Written}
 use Rattle.memo.specs.declared.Judgement.{Judgement}
 use Rattle.memo.specs.declared.Judgement.the-variants.{Recognised, Partial, Failure, Loop, Missing, End, Refused}
@@ -43,7 +43,7 @@ module _ {B : Type 0} {s : List ℕ} {h : Handed} {t : Checked B} {unchanged : T
       where
         by-sheet : (o : Checked Grammar) → handed s h ≡ o → handed s h ≡ refused x l
         by-sheet (refused y m) q = let f = follows .refused-as y m q .0 in cc
-        by-sheet (accepted g) q = let f = follows .accepted-as g q .1 in absurd (clash (cc))
+        by-sheet (accepted g) q = let f = follows .accepted-as g q .1 in absurd (true≢false (cc))
 
     -- Refused exactly under the condition,
     pub refused-exactly : (t ≡ refused x l) ↔ Refuses s h x l

@@ -19,7 +19,7 @@ use Rattle.schema.proofs.Handed.{handed-sheet, handed-input, handed-pair, hande
 use Rattle.schema.proofs.Laws.{number-one}
 use Rattle.schema.proofs.LineLength.{lines-length}
 use Rattle.schema.proofs.SheetClosed.{sheet-closed}
-use Rattle.walk.specs.Reply.{Reply, outcomeOf, countOf, told}
+use Rattle.finish.specs.Reply.{Reply, outcomeOf, countOf, told}
 use Rattle.writer.specs.Writer.{Visits, Writes, SaysWriting, RepliesWriting, WriterPromise}
 use Rattle.writer.specs.declared.Written.{Written}
 use Rattle.writer.proofs.LinesNumber.{lines-number}

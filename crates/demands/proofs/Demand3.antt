@@ -13,9 +13,9 @@ use Rattle.schema.specs.Handed.{handed, asked, questionOf}
 use Rattle.schema.specs.Machine.{spent, noFrame, ran}
 use Rattle.schema.specs.Table.{cells}
 use Rattle.rules.proofs.Admitted.{question-accepted}
-use Rattle.walk.specs.Reply.{Reply, reply, outcomeOf, countOf, told}
+use Rattle.finish.specs.Reply.{Reply, reply, outcomeOf, countOf, told}
 use Rattle.memo.specs.Answer.{QuestionPromise}
-use Rattle.walk.specs.declared.Answer.{Answer}
+use Rattle.finish.specs.declared.Answer.{Answer}
 use Rattle.memo.proofs.Promised.{question-answers, question-reply, case-accepted, case-answered, cells-a, cells-g}
 use Rattle.backtrack.specs.Run as run
 use Rattle.backtrack.specs.declared.Ending.{Ending}

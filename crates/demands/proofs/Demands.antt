@@ -10,11 +10,11 @@ use Rattle.grammar.specs.Order.{FirstHolds}
 use Rattle.schema.specs.Derivation.{Pair, _at_, Result, Derives, Outcome, result, Has}
 use Rattle.schema.specs.Handed.{Refuses, handed, asked, questionOf, verdictOf, writerOf}
 use Rattle.schema.specs.Machine.{says, ran}
-use Rattle.walk.specs.Reply.{Reply, outcomeOf, told}
+use Rattle.finish.specs.Reply.{Reply, outcomeOf, told}
 use Rattle.memo.specs.Answer.{QuestionPromise}
 use Rattle.memo.specs.Verdict.{numbers, judged, VerdictPromise}
 use Rattle.writer.specs.Writer.{WriterPromise}
-use Rattle.walk.specs.declared.Answer.{Answer}
+use Rattle.finish.specs.declared.Answer.{Answer}
 use Rattle.memo.specs.declared.Judgement.{Judgement}
 use Rattle.writer.specs.declared.Written.{Written}
 use Rattle.backtrack.specs.Run as run

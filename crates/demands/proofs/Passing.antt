@@ -1,11 +1,11 @@
 -- Lines that a visit writes are a certificate: each follows from earlier ones, and its numbers fit their columns. Assumes nothing.
+use mathlib.Core.Bool.{true≢false}
 use mathlib.Core.List.{List, [], _∷_, _++_}
 use mathlib.Core.Option.{some}
 use mathlib.Core.Path.{_≡_, sym, subst}
 use Prim.Native.Nat.{ℕ, zero, suc, _+_, _^_, _≤_, _<_}
 use native.Mathlib.Omega.{arith}
 use lib.ListN.{length, getElem?, length-append}
-use Rattle.calls.proofs.Clash.{clash}
 use Rattle.grammar.specs.Sheet.{Grammar}
 use Rattle.schema.specs.Closed.{Closed}
 use Rattle.schema.specs.Derivation as derivation
@@ -36,12 +36,12 @@ line-fits A p failure i j a b e k l = (omega arith, (omega arith, (omega arith, 
 
 -- One of lines that fit.
 fits-at : (ls : List Line) (i : ℕ) (l : Line) → FitLines ls → getElem? ls i ≡ some l → FitLine l
-fits-at [] i l f e = absurd (clash (cc))
+fits-at [] i l f e = absurd (true≢false (cc))
 fits-at (k ∷ ls) zero l f e = let q : k ≡ l = cc in subst FitLine q (f .0)
 fits-at (k ∷ ls) (suc i) l f e = fits-at ls i l (f .1) e
 
 fits-numbered : (ls : List Line) (i : ℕ) (l : Line) → FitLines ls → numbered ls i ≡ some l → FitLine l
-fits-numbered ls zero l f e = absurd (clash (cc))
+fits-numbered ls zero l f e = absurd (true≢false (cc))
 fits-numbered ls (suc i) l f e = fits-at ls i l f e
 
 fits-more : (ls : List Line) (l : Line) → FitLines ls → FitLine l → FitLines (ls ++ l ∷ [])
@@ -50,7 +50,7 @@ fits-more (k ∷ ls) l f g = (f .0, fits-more ls l (f .1) g)
 
 -- The number of a line is at most their count.
 at-most : (ls : List Line) (i : ℕ) (l : Line) → getElem? ls i ≡ some l → suc i ≤ length ls
-at-most [] i l e = absurd (clash (cc))
+at-most [] i l e = absurd (true≢false (cc))
 at-most (k ∷ ls) zero l e = omega arith
 at-most (k ∷ ls) (suc i) l e = let h = at-most ls i l e in omega arith
 

@@ -10,7 +10,7 @@ use Rattle.schema.specs.Derivation.{Pair, _at_, success, failure, Outcome, resu
 use Rattle.schema.specs.Machine.{says, ran, machine}
 use Rattle.schema.specs.Reached.{Reached, Number}
 use Rattle.schema.specs.Table.{Within, cells, decided, held, Holds}
-use Rattle.walk.specs.Reply.{Reply, outcomeOf, countOf}
+use Rattle.finish.specs.Reply.{Reply, outcomeOf, countOf}
 use Rattle.memo.specs.Verdict.{numbers}
 use Rattle.memo.specs.declared.Judgement.{Judgement}
 use Rattle.memo.specs.declared.Judgement.the-variants.{Recognised, Partial, Failure, Loop, Missing, End, Refused}

@@ -18,7 +18,7 @@ use Rattle.schema.proofs.Codes.{verdict-code-most}
 use Rattle.schema.proofs.Handed.{handed-sheet}
 use Rattle.schema.proofs.Laws.{has-one}
 use Rattle.schema.proofs.Small.{refusal-small}
-use Rattle.walk.specs.Reply.{reply}
+use Rattle.finish.specs.Reply.{reply}
 use Rattle.memo.specs.Verdict.{numbers, Judges, VerdictPromise}
 use Rattle.memo.specs.Verdict as verdict
 use Rattle.memo.specs.declared.Judgement.{Judgement}

@@ -13,9 +13,10 @@ use Rattle.schema.specs.Exported.{returned, reported}
 use Rattle.schema.specs.Handed.{Handed, Refuses, handed, questionOf, verdictOf}
 use Rattle.schema.proofs.CallRefusals.{call-refused}
 use Rattle.schema.proofs.Codes.{verdict-code-most}
-use Rattle.walk.specs.Reply.{told}
+use Rattle.finish.specs.Reply.{told}
 use Rattle.memo.specs.Answer.{Replies}
-use Rattle.entryreader.specs.Codes.{Coded, VerdictCode, questionNumbers, QuestionNumbers}
+use Rattle.reports.specs.Numbers.{questionNumbers}
+use Rattle.entryreader.specs.Codes.{Coded, VerdictCode, QuestionNumbers}
 
 -- A number that is 100 plus the number of a call's refusal, or small where the call is accepted.
 pub record Numbered (s : List ℕ) (h : Handed) (most r : ℕ) : Type 0 where

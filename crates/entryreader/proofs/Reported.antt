@@ -12,11 +12,12 @@ use Rattle.schema.specs.Handed.{handed, questionOf}
 use Rattle.schema.specs.Table.{code}
 use Rattle.schema.proofs.Handed.{handed-input, handed-pair}
 use Rattle.schema.proofs.Small.{refusal-small, code-small}
-use Rattle.walk.specs.Reply.{outcomeOf, told}
+use Rattle.finish.specs.Reply.{outcomeOf, told}
 use Rattle.memo.specs.Answer.{Replies, QuestionPromise}
-use Rattle.walk.specs.declared.Answer.{Answer}
+use Rattle.finish.specs.declared.Answer.{Answer}
 use Rattle.memo.proofs.Promised.{one-result}
-use Rattle.entryreader.specs.Codes.{replyCode, questionNumbers, QuestionNumbers}
+use Rattle.reports.specs.Numbers.{replyCode, questionNumbers}
+use Rattle.entryreader.specs.Codes.{QuestionNumbers}
 
 module _ (s input : List ℕ) (A p : ℕ) (table table′ work work′ : List ℕ) where
   -- The numbers of an answer fit 32 bits.

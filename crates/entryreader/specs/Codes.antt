@@ -1,6 +1,6 @@
 -- The numbers that the exported calls hand over. Assumes nothing.
 use mathlib.Core.Bool.{cond}
-use mathlib.Core.List.{List, [], _∷_}
+use mathlib.Core.List.{List}
 use mathlib.Core.Path.{_≡_}
 use Prim.Native.Nat.{ℕ, _+_}
 use lib.Dec.{eqb}
@@ -10,11 +10,11 @@ use Rattle.grammar.specs.Sheet.{Grammar}
 use Rattle.schema.specs.Derivation.{_at_, Outcome, Has}
 use Rattle.schema.specs.Exported.{returned, reported}
 use Rattle.schema.specs.Handed.{handed, verdictOf}
-use Rattle.schema.specs.Table.{code}
 use Rattle.schema.specs.Verdict.{verdictCode}
-use Rattle.walk.specs.Reply.{Reply, reply, outcomeOf, told}
+use Rattle.finish.specs.Reply.{told}
+use Rattle.reports.specs.Numbers.{questionNumbers}
 use Rattle.memo.specs.Answer.{QuestionPromise}
-use Rattle.walk.specs.declared.Answer.{Answer}
+use Rattle.finish.specs.declared.Answer.{Answer}
 
 -- ---- The verdict.
 
@@ -33,15 +33,6 @@ abbrev pub codeOf : List ℕ → ℕ
 codeOf xs = cond (eqb (getD xs 0 0) 9) (100 + getD xs 1 0) (getD xs 0 0)
 
 -- ---- The question.
-
--- The code of a reply's outcome.
-abbrev pub replyCode : Reply → ℕ
-replyCode a = code (outcomeOf a)
-
--- The four numbers of an answer: what the cell of the pair holds, the named variable and the named position (both 0 if none is named), the count
--- of decided cells.
-abbrev pub questionNumbers : Reply → List ℕ
-questionNumbers (reply o (A at p) count) = code o ∷ A ∷ p ∷ count ∷ []
 
 -- The call's promise: that of the question, with its answer in these numbers.
 pub record QuestionNumbers (sheet input : List ℕ) (A p : ℕ) (table table′ work work′ answer answer′ : List ℕ) (r : ℕ) : Type 0 where

@@ -1,13 +1,10 @@
 // The calls for programs in other languages.
 ghost use Prim.Native.Nat.{_≤_};
 ghost use mathlib.Core.Path.{_≡_};
-ghost use Rattle.schema.specs.Exported.{returned, reported, Fits};
-ghost use Rattle.walk.specs.Reply.{told};
 ghost use Rattle.memo.specs.Verdict.{numbers};
-ghost use Rattle.entryreader.specs.Codes.{codeOf, VerdictCode, replyCode, questionNumbers, QuestionNumbers};
-use cells::Cell;
+ghost use Rattle.entryreader.specs.Codes.{codeOf, VerdictCode, QuestionNumbers};
 use memo::Judgement;
-use walk::Answer;
+use reports::report;
 
 // The code of a verdict, or 100 plus the number of a refusal.
 fn code(judgement: Judgement) -> u32
@@ -33,26 +30,6 @@ pub extern "C" fn entryreader_verdict(sheet: &[u8], input: &[u8]) -> u32
     let mut table = [0u32; 1024];
     let mut work = [0u32; 1024];
     code(memo::verdict(sheet, input, &mut table, &mut work))
-}
-
-// Stores the four numbers of an answer, and returns 0; or 100 plus the number of a refusal.
-fn report(answer: Answer, out: &mut [u32; 4]) -> u32
-    requires { ⌜ Fits replyCode (told answer) ⌝ }
-    ensures returns { λ r. ⌜ r ≡ returned (told answer) ⌝ }
-    ensures reports { λ _. ⌜ now (out .exit) ≡ reported questionNumbers (now (out .entry)) (told answer) ⌝ }
-{
-    let four = match answer {
-        Answer::Success(end, count) => [Cell::SUCCESS.0 + end, 0, 0, count],
-        Answer::Failure(count) => [Cell::FAILURE.0, 0, 0, count],
-        Answer::Loop(variable, position, count) => [Cell::LOOP.0, variable, position, count],
-        Answer::Missing(variable, position, count) => [Cell::MISSING.0, variable, position, count],
-        Answer::End(variable, position, count) => [Cell::END.0, variable, position, count],
-        Answer::Refused(number, _) => {
-            return 100 + number;
-        }
-    };
-    *out = four;
-    0
 }
 
 // A question about a variable at a position of the input, over a lent table and a lent work slice: 0, with the cell's code, the named

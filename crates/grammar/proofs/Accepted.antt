@@ -1,6 +1,6 @@
 -- What an accepted sheet says of its lines and rules. Assumes nothing.
 use mathlib.Core.Path.{_≡_, refl, sym, subst}
-use mathlib.Core.Bool.{Bool, true, false, cond, _&&_, false≢true, and-eq-true-iff}
+use mathlib.Core.Bool.{Bool, true, false, cond, _&&_, false≢true, and-eq-true-iff, true≢false}
 use mathlib.Core.List.{List, [], _∷_}
 use mathlib.Core.Option.{Option, none, some, Option·getD}
 use Prim.Native.Nat.{ℕ, zero, suc, _+_, _-_, _≤_, _<_}
@@ -12,7 +12,7 @@ use Rattle.grammar.specs.Rule.{Rule, absent, always, never, byte, class,
 use Rattle.grammar.specs.Sheet.{Grammar, lines, isNone, variablesOf, numberAt, variableAt, ruleAt, ruleWithin, grammarOf, malformed, condition, ruleOrder, sheetOrder, sheet}
 use Rattle.grammar.specs.Order.{NoneHolds}
 use Rattle.grammar.specs.Printing.{ruleNumbers}
-use Rattle.grammar.proofs.Refusals.{clash, accepted-same, accepted-none}
+use Rattle.grammar.proofs.Refusals.{accepted-same, accepted-none}
 use Rattle.grammar.proofs.Fitting.{within-bounds}
 use Rattle.grammar.proofs.Progress.{VariableFits, not-out}
 use Rattle.grammar.proofs.Whole.{Whole, lines-whole, InRange, header-in-range}
@@ -76,7 +76,7 @@ module _ (v kind x y z : ℕ) (r : Rule) where
     where
       go : (t : Bool) → (a && b && c) ≡ t → fitting t q ≡ some r → Made v kind x y z r
       go true p h = let same : q ≡ r = cc in let t = all-true a b c p in subst (Made v kind x y z) same (f (t .0) (t .1) (t .2))
-      go false p h = absurd (clash (cc))
+      go false p h = absurd (true≢false (cc))
 
   pub rule-made : ruleOf v kind x y z ≡ some r → Made v kind x y z r
   unfolding ruleOf
@@ -96,16 +96,16 @@ module _ (v kind x y z : ℕ) (r : Rule) where
           (cond f (fitting (within 1 v x && within 1 v y && within 1 v z) (call x y z)) none)))) ≡ some r → Made v kind x y z r
       go true b c d f k l m n o e =
           made (unused x) (unused y) (unused z) always
-          (λ p q s. record { fits = tt; present = λ t. clash (cc); numbers = none-used 0 p q s (sym (eqb-true kind 0 k)) }) e
+          (λ p q s. record { fits = tt; present = λ t. true≢false (cc); numbers = none-used 0 p q s (sym (eqb-true kind 0 k)) }) e
       go false true c d f k l m n o e =
           made (unused x) (unused y) (unused z) never
-          (λ p q s. record { fits = tt; present = λ t. clash (cc); numbers = none-used 1 p q s (sym (eqb-true kind 1 l)) }) e
+          (λ p q s. record { fits = tt; present = λ t. true≢false (cc); numbers = none-used 1 p q s (sym (eqb-true kind 1 l)) }) e
       go false false true d f k l m n o e =
           made (within 0 255 x) (unused y) (unused z) (byte x)
-          (λ p q s. record { fits = within-bounds 0 255 x p .1; present = λ t. clash (cc); numbers = one-used 2 q s (sym (eqb-true kind 2 m)) }) e
+          (λ p q s. record { fits = within-bounds 0 255 x p .1; present = λ t. true≢false (cc); numbers = one-used 2 q s (sym (eqb-true kind 2 m)) }) e
       go false false false true f k l m n o e =
           made (within 1 6 x) (unused y) (unused z) (class x)
-          (λ p q s. record { fits = within-bounds 1 6 x p; present = λ t. clash (cc); numbers = one-used 3 q s (sym (eqb-true kind 3 n)) }) e
+          (λ p q s. record { fits = within-bounds 1 6 x p; present = λ t. true≢false (cc); numbers = one-used 3 q s (sym (eqb-true kind 3 n)) }) e
       go false false false false true k l m n o e =
           made (within 1 v x) (within 1 v y) (within 1 v z) (call x y z)
           (λ p q s.
@@ -113,9 +113,9 @@ module _ (v kind x y z : ℕ) (r : Rule) where
           let c = within-bounds 1 v y q in
           let d = within-bounds 1 v z s in
           let i = eqb-true kind 4 o in
-          record { fits = (b .0, b .1, c .0, c .1, d .0, d .1); present = λ t. clash (cc); numbers = λ A. cc })
+          record { fits = (b .0, b .1, c .0, c .1, d .0, d .1); present = λ t. true≢false (cc); numbers = λ A. cc })
           e
-      go false false false false false k l m n o e = absurd (clash (cc))
+      go false false false false false k l m n o e = absurd (true≢false (cc))
 
 -- The rule of a variable fits, and a variable that is none of 1 to V has no rule.
 module _ (s : List ℕ) (fit : (i : ℕ) → i < lines s - 1 → LineFits s (i + 2)) where

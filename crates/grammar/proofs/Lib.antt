@@ -1,5 +1,4 @@
 -- Laws of rule sheets.
-pub mod ClassRuns
 pub mod Refusals
 pub mod Ends
 pub mod Header

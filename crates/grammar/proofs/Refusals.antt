@@ -9,10 +9,6 @@ use borrow.Author.Tests.{lt-ltb, le-ltb}
 use Rattle.grammar.specs.Refusal.{Checked, refused, accepted, checked, from}
 use Rattle.grammar.specs.Order.{NoneHolds, FirstHolds}
 
--- Two cases that differ are never equal: `clash (cc)` where an equation says so.
-pub clash : _≡_ {A = ℕ} 0 1 → ⊥
-clash z = omega arith
-
 -- What is refused stays so; what is accepted leaves it to the other.
 abbrev pub then : {A B : Type 0} → Checked A → Checked B → Checked B
 then (refused x l) c = refused x l
@@ -23,7 +19,7 @@ then (accepted a) c = c
 module _ (condition : ℕ → ℕ → Bool) where
   first-holds : {A : Type 0} (rs : List (ℕ × ℕ)) (a : A) (x l : ℕ) → checked condition rs a ≡ refused x l → FirstHolds condition rs x l
   unfolding checked
-  first-holds [] a x l e = absurd (clash (cc))
+  first-holds [] a x l e = absurd (true≢false (cc))
   first-holds (r ∷ rs) a x l e = go (condition (r .0) (r .1)) refl e (first-holds rs a x l)
     where
       go : (t : Bool) → condition (r .0) (r .1) ≡ t → cond t (refused (r .0) (r .1)) (checked condition rs a) ≡ refused x l
@@ -60,7 +56,7 @@ module _ (condition : ℕ → ℕ → Bool) where
     where
       go : (t : Bool) → checked condition rs a ≡ accepted a ↔ NoneHolds condition rs
           → cond t (refused (r .0) (r .1)) (checked condition rs a) ≡ accepted a ↔ ((t ≡ false) × NoneHolds condition rs)
-      go true i = (λ e. absurd (clash (cc)), λ n. absurd (true≢false (n .0)))
+      go true i = (λ e. absurd (true≢false (cc)), λ n. absurd (true≢false (n .0)))
       go false i = (λ e. (refl, i .0 e), λ n. i .1 (n .1))
 
   -- What is accepted is what was offered.
@@ -70,7 +66,7 @@ module _ (condition : ℕ → ℕ → Bool) where
   accepted-same (r ∷ rs) a b e = go (condition (r .0) (r .1)) e (accepted-same rs a b)
     where
       go : (t : Bool) → cond t (refused (r .0) (r .1)) (checked condition rs a) ≡ accepted b → (checked condition rs a ≡ accepted b → a ≡ b) → a ≡ b
-      go true f rest = absurd (clash (cc))
+      go true f rest = absurd (true≢false (cc))
       go false f rest = rest f
 
   pub accepted-none : {A : Type 0} (rs : List (ℕ × ℕ)) (a b : A) → checked condition rs a ≡ accepted b → NoneHolds condition rs
@@ -117,7 +113,7 @@ each-also P Q (r ∷ rs) f p = (f (r .0) (p .0), each-also P Q rs f (p .1))
 pub refused-each : {A : Type 0} (P : ℕ → Type 0) (condition : ℕ → ℕ → Bool) (rs : List (ℕ × ℕ)) (a : A) (x l : ℕ) → Each P rs
     → checked condition rs a ≡ refused x l → P x
 unfolding checked
-refused-each P condition [] a x l p e = absurd (clash (cc))
+refused-each P condition [] a x l p e = absurd (true≢false (cc))
 refused-each P condition (r ∷ rs) a x l p e = go (condition (r .0) (r .1)) e (refused-each P condition rs a x l (p .1))
   where
     go : (t : Bool) → cond t (refused (r .0) (r .1)) (checked condition rs a) ≡ refused x l → (checked condition rs a ≡ refused x l → P x) → P x

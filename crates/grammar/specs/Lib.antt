@@ -1,7 +1,6 @@
 -- What a rule sheet holds, and how it is refused.
 pub mod Refusal
 pub mod Order
-pub mod Class
 pub mod Rule
 pub mod Sheet
 pub mod Printing

@@ -1,3 +1,2 @@
 // The rule sheet of a grammar.
-pub mod class;
 pub mod sheet;

@@ -1,4 +1,5 @@
 -- What is next at a pair, by the numbers that the work slice holds for the pairs that it calls. Assumes nothing.
+use mathlib.Core.Bool.{true≢false}
 use mathlib.Core.Path.{_≡_, refl, sym, ap, _∙_, subst}
 use mathlib.Core.List.{List, [], _∷_}
 use mathlib.Core.Logic.{inl, inr, _≢_}
@@ -7,7 +8,6 @@ use native.Mathlib.Omega.{arith}
 use types.Run.{OneOf}
 use denote.Enum.Declared.{tagOf}
 use lib.ListN.{length, getD}
-use Rattle.calls.proofs.Clash.{clash}
 use Rattle.grammar.specs.Rule.{Rule}
 use Rattle.rules.specs.Act.{told}
 use Rattle.rules.specs.declared.Act.{Act}
@@ -25,10 +25,10 @@ use Rattle.lines.specs.declared.Turn.the-variants as turn
 
 -- An act whose place among the cases is before the last is no call.
 pub not-calls : (a : Act) → OneOf (0 ∷ 1 ∷ 2 ∷ 3 ∷ []) (tagOf declared.the-type a) → (B C D : ℕ) → told a ≢ calls B C D
-not-calls (code.Success q) k B C D e = clash (cc)
-not-calls code.Failure k B C D e = clash (cc)
-not-calls code.Missing k B C D e = clash (cc)
-not-calls code.End k B C D e = clash (cc)
+not-calls (code.Success q) k B C D e = true≢false (cc)
+not-calls code.Failure k B C D e = true≢false (cc)
+not-calls code.Missing k B C D e = true≢false (cc)
+not-calls code.End k B C D e = true≢false (cc)
 not-calls (code.Calls E F G) k B C D e = elim k [ inl h ↦ omega arith | inr m ↦ elim m [ inl h ↦ omega arith | inr o ↦ elim o [ inl h ↦ omega arith | inr h ↦ omega arith ] ] ]
 
 -- What a number of the work slice asks.

@@ -10,7 +10,7 @@ use Rattle.schema.specs.Cells.{heldAt}
 use Rattle.schema.specs.Derivation.{_at_}
 use Rattle.schema.specs.Table.{cell, cells, decided}
 use Rattle.schema.proofs.Cell.{cell-below}
-use Rattle.walk.specs.Reply.{Reply, reply}
+use Rattle.finish.specs.Reply.{Reply, reply}
 use Rattle.memo.specs.Answer.{Says}
 use Rattle.memo.specs.Ask.{AskReady}
 use Rattle.walk.specs.Over.{OverReady, Over}

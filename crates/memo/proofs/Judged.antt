@@ -20,7 +20,7 @@ use Rattle.schema.specs.Table.{Within, cells}
 use Rattle.schema.specs.Verdict.{closedBy}
 use Rattle.schema.proofs.SheetClosed.{start-within}
 use Rattle.schema.proofs.Tested.{handed-refused, verdict-by}
-use Rattle.walk.specs.Reply.{Reply}
+use Rattle.finish.specs.Reply.{Reply}
 use Rattle.memo.specs.Answer.{Says}
 use Rattle.memo.specs.Ask.{AskReady}
 use Rattle.memo.specs.Verdict.{judged, Judges}

@@ -20,10 +20,10 @@ use Rattle.schema.proofs.Handed.{handed-sheet, handed-pair, handed-slices}
 use Rattle.schema.proofs.Tested.{question-follows}
 use Rattle.rules.proofs.Admitted.{question-accepted}
 use Rattle.schema.proofs.SheetClosed.{start-within}
-use Rattle.walk.specs.Reply.{Reply, reply, outcomeOf, countOf, told}
+use Rattle.finish.specs.Reply.{Reply, reply, outcomeOf, countOf, told}
 use Rattle.memo.specs.Answer.{Says, Replies, QuestionPromise}
 use Rattle.memo.specs.Verdict.{numbers, judged, Judges, VerdictPromise}
-use Rattle.walk.specs.declared.Answer.{Answer}
+use Rattle.finish.specs.declared.Answer.{Answer}
 use Rattle.memo.specs.declared.Judgement.{Judgement}
 use Rattle.memo.proofs.Result.{count-is, count-most, outcome-is, answer-is, one-answer, one-table}
 

@@ -18,7 +18,7 @@ use Rattle.schema.specs.Table.{cells}
 use Rattle.schema.proofs.Tested.{slicesOut, question-follows}
 use Rattle.rules.proofs.Admitted.{Admitted, admitted, not-admitted}
 use Rattle.schema.proofs.Handed.{handed-sheet}
-use Rattle.walk.specs.Reply.{Reply}
+use Rattle.finish.specs.Reply.{Reply}
 use Rattle.memo.specs.Answer.{Replies, Says}
 use Rattle.memo.specs.Ask.{AskReady}
 use Rattle.memo.proofs.Ready.{few-variables, ready, says-of}

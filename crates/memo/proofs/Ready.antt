@@ -16,7 +16,7 @@ use Rattle.schema.specs.Closed.{Closed}
 use Rattle.schema.specs.Table.{Within, cells}
 use Rattle.grammar.proofs.Fitting.{neither-true}
 use Rattle.schema.proofs.SheetClosed.{sheet-closed}
-use Rattle.walk.specs.Reply.{Reply}
+use Rattle.finish.specs.Reply.{Reply}
 use Rattle.memo.specs.Answer.{Says}
 use Rattle.memo.specs.Ask.{AskReady}
 

@@ -23,7 +23,7 @@ use Rattle.schema.proofs.Counted.{number-cells}
 use Rattle.schema.proofs.Handed.{handed-sheet}
 use Rattle.schema.proofs.Laws.{has-one, named-one, number-one}
 use Rattle.schema.proofs.SheetClosed.{sheet-closed}
-use Rattle.walk.specs.Reply.{Reply, reply, outcomeOf, countOf}
+use Rattle.finish.specs.Reply.{Reply, reply, outcomeOf, countOf}
 use Rattle.memo.specs.Answer.{Answers}
 use Rattle.walk.proofs.Decided.{decided-none, decided-blank, decided-more}
 use Rattle.memo.proofs.TableOne.{table-one}

@@ -10,8 +10,8 @@ use Rattle.schema.specs.Derivation.{Pair, _at_, Outcome, Has}
 use Rattle.schema.specs.Reached.{Named}
 use Rattle.schema.specs.Table.{cells, decided, blanked, Table}
 use Rattle.schema.specs.Handed.{handed, questionOf}
-use Rattle.walk.specs.Reply.{Reply, reply, told}
-use Rattle.walk.specs.declared.Answer.{Answer}
+use Rattle.finish.specs.Reply.{Reply, reply, told}
+use Rattle.finish.specs.declared.Answer.{Answer}
 
 -- The reply to a question about x, of v variables, that is not refused, with the table and the work slice before and after it.
 pub record Answers (rule : ℕ → Rule) (v : ℕ) (input : List ℕ) (x : Pair) (table table′ work work′ : List ℕ) (r : Reply) : Type 0 where

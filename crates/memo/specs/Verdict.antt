@@ -8,7 +8,7 @@ use Rattle.grammar.specs.Sheet.{Grammar}
 use Rattle.schema.specs.Derivation.{_at_, success, failure, Outcome, result, stopped, loop}
 use Rattle.schema.specs.Handed.{handed, verdictOf}
 use Rattle.schema.specs.Verdict.{verdictCode}
-use Rattle.walk.specs.Reply.{Reply, reply}
+use Rattle.finish.specs.Reply.{Reply, reply}
 use Rattle.memo.specs.Answer.{Says}
 use Rattle.memo.specs.declared.Judgement.{Judgement}
 use Rattle.memo.specs.declared.Judgement.the-variants.{Recognised, Partial, Failure, Loop, Missing, End, Refused}

@@ -8,16 +8,16 @@ ghost use Rattle.grammar.specs.Words.{ruleIn};
 ghost use Rattle.schema.specs.Derivation.{_at_};
 ghost use Rattle.schema.specs.Table.{cells};
 ghost use Rattle.schema.specs.Verdict.{closedBy};
-ghost use Rattle.walk.specs.Reply.{told};
+ghost use Rattle.finish.specs.Reply.{told};
 ghost use Rattle.memo.specs.Answer.{Says, QuestionPromise};
 ghost use Rattle.memo.specs.Ask.{AskReady};
 ghost use Rattle.memo.specs.Verdict.{numbers, judged, VerdictPromise};
 use cells::blank;
+use finish::Answer;
 use grammar::sheet::Rules;
 use grammar::sheet::Sheet;
 use grammar::sheet::read_sheet;
 use rules::admit;
-use walk::Answer;
 use walk::ask_over;
 
 // Asks about a pair, the table blanked first.

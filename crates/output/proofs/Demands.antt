@@ -1,5 +1,5 @@
 -- Demands 1 and 2 for the output of the program, of whatever meets its contract. Assumes nothing.
-use mathlib.Core.Bool.{Bool}
+use mathlib.Core.Bool.{Bool, true≢false}
 use mathlib.Core.List.{List, [], _∷_, _++_, append-assoc}
 use mathlib.Core.Logic.{_↔_}
 use mathlib.Core.Option.{Option, none, some}
@@ -13,7 +13,6 @@ use Rattle.columns.specs.Column.{column, row, field, fields, consTo}
 use Rattle.columns.proofs.Rows.{row-length, field-read, row-read}
 use Rattle.grammar.specs.Refusal.{Checked, refused, accepted}
 use Rattle.grammar.specs.Sheet.{Grammar}
-use Rattle.grammar.proofs.Refusals.{clash}
 use Rattle.schema.specs.Derivation.{Pair, _at_, Result, Outcome, result, Has}
 use Rattle.schema.specs.Handed.{Handed, Refuses, handed, asked, verdictOf, writerOf}
 use Rattle.schema.specs.Line.{linesBytes}
@@ -23,7 +22,7 @@ use Rattle.schema.proofs.Laws.{has-one}
 use Rattle.schema.proofs.Codes.{verdict-code-most}
 use Rattle.schema.proofs.Small.{refusal-small, refusal-line}
 use Rattle.rules.proofs.Admitted.{question-accepted}
-use Rattle.walk.specs.Reply.{reply}
+use Rattle.finish.specs.Reply.{reply}
 use Rattle.memo.specs.Verdict.{positionFor, judged}
 use Rattle.writer.specs.Writer.{Lines}
 use Rattle.checker.specs.Checker.{Checks}
@@ -42,7 +41,7 @@ line-size : (n : ℕ) (o : Outcome) (z : Pair) (count : ℕ) → length (row 8 (
 line-size n o (A at p) count = row-length 8 _
 
 first-is : (k : ℕ) (others : Option (List ℕ)) (xs : List ℕ) → consTo (some k) others ≡ some (9 ∷ xs) → k ≡ 9
-first-is k none xs e = absurd (clash (cc))
+first-is k none xs e = absurd (true≢false (cc))
 first-is k (some ys) xs e = cc
 
 module _ (s input out out′ : List ℕ) (r : ℕ) (promise : OutputPromise s input out out′ r) where

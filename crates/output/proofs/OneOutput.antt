@@ -14,7 +14,7 @@ use Rattle.schema.specs.Handed.{handed, verdictOf}
 use Rattle.schema.specs.Line.{Line, linesBytes}
 use Rattle.schema.specs.Reached.{Named}
 use Rattle.schema.proofs.Laws.{has-one, named-one, number-one}
-use Rattle.walk.specs.Reply.{reply}
+use Rattle.finish.specs.Reply.{reply}
 use Rattle.memo.specs.Verdict.{judged}
 use Rattle.writer.specs.Writer.{Lines}
 use Rattle.writer.proofs.OneWritten.{lines-one}

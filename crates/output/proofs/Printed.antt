@@ -17,7 +17,7 @@ use Rattle.schema.proofs.Handed.{handed-sheet, handed-slices}
 use Rattle.schema.proofs.Laws.{has-one}
 use Rattle.schema.proofs.LineLength.{lines-length}
 use Rattle.schema.proofs.SheetClosed.{start-within}
-use Rattle.walk.specs.Reply.{reply, outcomeOf, countOf, told}
+use Rattle.finish.specs.Reply.{reply, outcomeOf, countOf, told}
 use Rattle.memo.specs.Verdict.{numbers, judged, Judges, VerdictPromise}
 use Rattle.writer.specs.Writer.{Lines, Writes, SaysWriting, RepliesWriting}
 use Rattle.memo.specs.declared.Judgement.{Judgement}

@@ -1,4 +1,5 @@
 -- The start variable, from the promise of the sheet reader. Assumes nothing.
+use mathlib.Core.Bool.{true≢false}
 use mathlib.Core.List.{List, [], _∷_}
 use mathlib.Core.Path.{_≡_, ap, _∙_}
 use Prim.Native.Nat.{ℕ}
@@ -8,7 +9,6 @@ use Rattle.grammar.specs.Sheet.{Grammar, sheet}
 use Rattle.grammar.specs.declared.sheet.Grammar.{Grammar as Line}
 use Rattle.grammar.specs.declared.sheet.Sheet.{Sheet}
 use Rattle.grammar.specs.declared.sheet.Sheet.the-variants.{Read, Refused}
-use Rattle.grammar.proofs.Refusals.{clash}
 use Rattle.output.specs.Output.{StartOf}
 
 module _ {s before after : List ℕ} {r : Sheet} (promise : SheetPromise s before after r) where
@@ -21,4 +21,4 @@ module _ {s before after : List ℕ} {r : Sheet} (promise : SheetPromise s befor
 
   -- One that is refused has none.
   pub no-start : (x l : ℕ) → r ≡ Refused x l → StartOf s 0
-  no-start x l e g h = let d = said g h in let k = ap told e in absurd (clash (cc))
+  no-start x l e g h = let d = said g h in let k = ap told e in absurd (true≢false (cc))

@@ -14,7 +14,7 @@ use Rattle.schema.specs.Derivation.{Pair, _at_, Outcome, Has}
 use Rattle.schema.specs.Handed.{handed, verdictOf}
 use Rattle.schema.specs.Line.{Line, linesBytes}
 use Rattle.schema.specs.Reached.{Reached, Named, Number}
-use Rattle.walk.specs.Reply.{reply}
+use Rattle.finish.specs.Reply.{reply}
 use Rattle.memo.specs.Verdict.{judged}
 use Rattle.writer.specs.Writer.{Lines, WriterPromise}
 use Rattle.writer.specs.declared.Written.{Written}

@@ -1,5 +1,5 @@
 // The functions that look at a rule, and the tests of what every question is handed.
-use grammar::class::class_of;
+use classes::class_of;
 use grammar::sheet::Rules;
 use grammar::sheet::Sheet;
 use grammar::sheet::read_sheet;
@@ -8,7 +8,7 @@ ghost use mathlib.Core.Path.{_≡_};
 ghost use Prim.Native.Nat.{ℕ, _≤_};
 ghost use lib.Dec.{eqb};
 ghost use lib.ListN.{length, getD};
-ghost use Rattle.grammar.specs.Class.{classOf};
+ghost use Rattle.classes.specs.Class.{classOf};
 ghost use Rattle.grammar.specs.Words.{ruleIn, secondIn};
 ghost use Rattle.schema.specs.Derivation.{act, oneByte, _at_};
 ghost use Rattle.rules.specs.Act.{told};

@@ -1,6 +1,6 @@
 -- Document 01, "Marked entries": every case of the list holds. What a case gives is computed, by the walk, the evaluator and the machine, and carried
 -- over to the relations. Assumes nothing.
-use mathlib.Core.Bool.{Bool, true, false}
+use mathlib.Core.Bool.{Bool, true, false, true≢false}
 use mathlib.Core.List.{List, [], _∷_, map, List·Memᴰ, List·Memᴰ·cases-cons, List·Memᴰ·not-nil}
 use mathlib.Core.Logic.{inl, inr}
 use mathlib.Core.Option.{Option, none, some}
@@ -10,11 +10,10 @@ use Prim.Native.Nat.{ℕ}
 use lib.ListN.{length}
 use Rattle.calls.proofs.Count.{sum}
 use Rattle.calls.proofs.Numbered.{numbered}
-use Rattle.calls.proofs.Clash.{clash}
 use Rattle.calls.proofs.Table.{put, fresh, count-fresh}
 use Rattle.calls.proofs.Walk.{Walked, walk, ask}
 use Rattle.columns.specs.Column.{leading, column, row, digitsAfter, number, field, fields}
-use Rattle.grammar.specs.Class.{classIn, classOf}
+use Rattle.classes.specs.Class.{classIn, classOf}
 use Rattle.grammar.specs.Refusal.{Checked, refused, accepted, checked}
 use Rattle.grammar.specs.Rule.{Rule, ruleOf}
 use Rattle.grammar.specs.Sheet.{Grammar, grammarOf, lineAt, ruleWithin, openLine, notLines, headerOut, variableOut, condition, ruleOrder, sheetOrder}
@@ -75,7 +74,7 @@ unfolding handed
 handed-is s h e = go (handed s h) refl
   where
     go : (o : Checked Grammar) → handed s h ≡ o → handed s h ≡ accepted (grammarOf s)
-    go (refused x l) p = let q = ap isAccepted p in absurd (clash (cc))
+    go (refused x l) p = let q = ap isAccepted p in absurd (true≢false (cc))
     go (accepted g) p = p ∙ ap accepted (sym (accepted-same (handedCondition s h) (handedOrder s) (grammarOf s) g p))
 
 -- A value's steps and height are those of the outcome's derivation.

@@ -1,15 +1,14 @@
 -- A grammar whose rules call its own variables: its pairs are numbered by their cells, and call one another. Assumes nothing.
-use mathlib.Core.Bool.{Bool, true, false, cond}
+use mathlib.Core.Bool.{Bool, true, false, cond, true≢false}
 use mathlib.Core.List.{List}
 use mathlib.Core.Path.{_≡_, sym, subst}
 use Prim.Native.Nat.{ℕ, _+_, _≤_}
 use lib.Dec.{ltb, eqb}
 use lib.ListN.{length, getD}
 use Rattle.calls.proofs.Numbered.{Numbering}
-use Rattle.calls.proofs.Clash.{clash}
 use Rattle.calls.proofs.System as theory
 use Rattle.calls.proofs.System.{Means, value}
-use Rattle.grammar.specs.Class.{classOf}
+use Rattle.classes.specs.Class.{classOf}
 use Rattle.grammar.specs.Rule.{Rule, absent, always, never, byte, class, call}
 use Rattle.schema.specs.Derivation.{Pair, _at_, Result, success, failure, gives, calls, atEnd, actOf, act, second, Derives}
 use Rattle.schema.specs.Closed.{Variable, Closed}
@@ -19,16 +18,16 @@ use Rattle.schema.proofs.Ends.{ends-in, derives-ends}
 use Rattle.schema.proofs.System.{gts, kind-calls, first-is, second-is, from-done}
 
 byte-not-calls : (p B C D : ℕ) (b m : Bool) → cond b (cond m (gives (success (p + 1))) (gives failure)) atEnd ≡ calls B C D → ⊥
-byte-not-calls p B C D true true e = clash (cc)
-byte-not-calls p B C D true false e = clash (cc)
-byte-not-calls p B C D false m e = clash (cc)
+byte-not-calls p B C D true true e = true≢false (cc)
+byte-not-calls p B C D true false e = true≢false (cc)
+byte-not-calls p B C D false m e = true≢false (cc)
 
 -- Only a rule of kind 4 calls.
 pub calls-call : (r : Rule) (s : List ℕ) (p B C D : ℕ) → actOf r s p ≡ calls B C D → r ≡ call B C D
 unfolding actOf
-calls-call absent s p B C D e = absurd (clash (cc))
-calls-call always s p B C D e = absurd (clash (cc))
-calls-call never s p B C D e = absurd (clash (cc))
+calls-call absent s p B C D e = absurd (true≢false (cc))
+calls-call always s p B C D e = absurd (true≢false (cc))
+calls-call never s p B C D e = absurd (true≢false (cc))
 calls-call (byte b) s p B C D e = absurd (byte-not-calls p B C D (ltb p (length s)) (eqb (getD s p 0) b) e)
 calls-call (class c) s p B C D e = absurd (byte-not-calls p B C D (ltb p (length s)) (eqb (classOf (getD s p 0)) c) e)
 calls-call (call E F G) s p B C D e = cc

@@ -1,5 +1,5 @@
 -- A success ends between its position and the end of the input. Assumes nothing.
-use mathlib.Core.Bool.{Bool, true, false, cond}
+use mathlib.Core.Bool.{Bool, true, false, cond, true≢false}
 use mathlib.Core.List.{List}
 use mathlib.Core.Path.{_≡_, refl}
 use Prim.Native.Nat.{ℕ, _+_, _≤_}
@@ -7,8 +7,7 @@ use native.Mathlib.Omega.{arith}
 use lib.Dec.{ltb, eqb}
 use lib.ListN.{length, getD}
 use borrow.Author.Tests.{ltb-true}
-use Rattle.calls.proofs.Clash.{clash}
-use Rattle.grammar.specs.Class.{classOf}
+use Rattle.classes.specs.Class.{classOf}
 use Rattle.grammar.specs.Rule.{Rule, absent, always, never, byte, class, call}
 use Rattle.schema.specs.Derivation.{Pair, _at_, Result, success, failure, gives, atEnd, actOf, act, second, Derives, leaf, node}
 use Rattle.schema.specs.Table.{Ends}
@@ -33,20 +32,20 @@ byte-ends s p (success q) true true h e =
     let l = ltb-true p (length s) h in
     let z : p + 1 ≡ q = cc in
     (omega arith, omega arith)
-byte-ends s p (success q) true false h e = absurd (clash (cc))
-byte-ends s p (success q) false m h e = absurd (clash (cc))
+byte-ends s p (success q) true false h e = absurd (true≢false (cc))
+byte-ends s p (success q) false m h e = absurd (true≢false (cc))
 byte-ends s p failure b m h e = tt
 
 rule-ends : (u : Rule) (s : List ℕ) (p : ℕ) (r : Result) → p ≤ length s → actOf u s p ≡ gives r → EndsWithin p (length s) r
 unfolding actOf
-rule-ends absent s p r l e = absurd (clash (cc))
+rule-ends absent s p r l e = absurd (true≢false (cc))
 rule-ends always s p (success q) l e = let z : p ≡ q = cc in (omega arith, omega arith)
 rule-ends always s p failure l e = tt
-rule-ends never s p (success q) l e = absurd (clash (cc))
+rule-ends never s p (success q) l e = absurd (true≢false (cc))
 rule-ends never s p failure l e = tt
 rule-ends (byte b) s p r l e = byte-ends s p r (ltb p (length s)) (eqb (getD s p 0) b) refl e
 rule-ends (class c) s p r l e = byte-ends s p r (ltb p (length s)) (eqb (classOf (getD s p 0)) c) refl e
-rule-ends (call B C D) s p r l e = absurd (clash (cc))
+rule-ends (call B C D) s p r l e = absurd (true≢false (cc))
 
 -- The second pair's position, and an end beyond it, seen from the first.
 second-position : (n C D p : ℕ) (t : Result) → p ≤ n → EndsWithin p n t → (p ≤ positionOf (second C D p t)) × (positionOf (second C D p t) ≤ n)

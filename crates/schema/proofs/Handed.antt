@@ -1,5 +1,5 @@
 -- What an accepted call was handed: an accepted sheet, a pair within, slices that are long enough. Assumes nothing.
-use mathlib.Core.Bool.{Bool, false, _||_}
+use mathlib.Core.Bool.{Bool, false, _||_, true≢false}
 use mathlib.Core.List.{List}
 use mathlib.Core.Option.{Option, some}
 use mathlib.Core.Path.{_≡_, refl, sym, ap, _∙_}
@@ -14,7 +14,7 @@ use Rattle.grammar.specs.Sheet.{Grammar, sheet}
 use Rattle.schema.specs.Derivation.{Pair, _at_}
 use Rattle.schema.specs.Handed.{Handed, tested, pairVariableOut, pairPositionOut, callCondition, callOrder, handed}
 use Rattle.schema.specs.Table.{cells}
-use Rattle.grammar.proofs.Refusals.{clash, accepted-same, accepted-none}
+use Rattle.grammar.proofs.Refusals.{accepted-same, accepted-none}
 use Rattle.grammar.proofs.Fitting.{neither-true, within-bounds}
 use Rattle.schema.proofs.Cell.{PairWithin}
 use Rattle.schema.proofs.Tested.{handed-refused, handed-then}
@@ -29,7 +29,7 @@ module _ (s : List ℕ) (h : Handed) (g : Grammar) (e : handed s h ≡ accepted 
   handed-sheet = go (sheet s) refl
     where
       go : (o : Checked Grammar) → sheet s ≡ o → sheet s ≡ accepted g
-      go (refused x l) p = let q = handed-refused s h x l p in absurd (clash (cc))
+      go (refused x l) p = let q = handed-refused s h x l p in absurd (true≢false (cc))
       go (accepted k) p =
           p ∙ ap accepted (accepted-same (callCondition k h) callOrder k g (sym (handed-then s h k p) ∙ e))
 

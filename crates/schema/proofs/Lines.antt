@@ -1,4 +1,5 @@
 -- Which lines stand once one is appended. Assumes nothing.
+use mathlib.Core.Bool.{true≢false}
 use mathlib.Core.Path.{_≡_, refl, ap}
 use mathlib.Core.List.{List, [], _∷_, _++_}
 use mathlib.Core.Logic.{_⊎_, inl, inr}
@@ -7,12 +8,11 @@ use Prim.Native.Nat.{ℕ, zero, suc, _+_}
 use native.Mathlib.Omega.{arith}
 use native.Mathlib.Numerals.{add-one}
 use lib.ListN.{length, getElem?}
-use Rattle.calls.proofs.Clash.{clash}
 use Rattle.schema.specs.Derivation.{Pair, _at_, Result, success, failure}
 use Rattle.schema.specs.Line.{Line, lineOf, numbered, Stands}
 
 element-before : (ls more : List Line) (i : ℕ) (l : Line) → getElem? ls i ≡ some l → getElem? (ls ++ more) i ≡ some l
-element-before [] more i l e = absurd (clash (cc))
+element-before [] more i l e = absurd (true≢false (cc))
 element-before (x ∷ ls) more zero l e = e
 element-before (x ∷ ls) more (suc i) l e = element-before ls more i l e
 
@@ -23,7 +23,7 @@ element-last (x ∷ ls) l = element-last ls l
 
 element-cases : (ls : List Line) (l m : Line) (i : ℕ) → getElem? (ls ++ l ∷ []) i ≡ some m → (getElem? ls i ≡ some m) ⊎ ((i ≡ length ls) × (l ≡ m))
 element-cases [] l m zero e = inr (refl, cc)
-element-cases [] l m (suc i) e = absurd (clash (cc))
+element-cases [] l m (suc i) e = absurd (true≢false (cc))
 element-cases (x ∷ ls) l m zero e = inl e
 element-cases (x ∷ ls) l m (suc i) e = further (element-cases ls l m i e)
   where
@@ -34,16 +34,16 @@ element-cases (x ∷ ls) l m (suc i) e = further (element-cases ls l m i e)
 -- A line is that of one pair and one result.
 pub line-one : (x y : Pair) (r t : Result) (i j k m : ℕ) → lineOf x r i j ≡ lineOf y t k m → (x ≡ y) × (r ≡ t)
 line-one (A at p) (B at q) (success a) (success b) i j k m e = (cc, cc)
-line-one (A at p) (B at q) (success a) failure i j k m e = absurd (clash (cc))
-line-one (A at p) (B at q) failure (success b) i j k m e = absurd (clash (cc))
+line-one (A at p) (B at q) (success a) failure i j k m e = absurd (true≢false (cc))
+line-one (A at p) (B at q) failure (success b) i j k m e = absurd (true≢false (cc))
 line-one (A at p) (B at q) failure failure i j k m e = (cc, cc)
 
 numbered-before : (ls more : List Line) (i : ℕ) (l : Line) → numbered ls i ≡ some l → numbered (ls ++ more) i ≡ some l
-numbered-before ls more zero l e = absurd (clash (cc))
+numbered-before ls more zero l e = absurd (true≢false (cc))
 numbered-before ls more (suc i) l e = element-before ls more i l e
 
 numbered-cases : (ls : List Line) (l m : Line) (i : ℕ) → numbered (ls ++ l ∷ []) i ≡ some m → (numbered ls i ≡ some m) ⊎ ((i ≡ length ls + 1) × (l ≡ m))
-numbered-cases ls l m zero e = absurd (clash (cc))
+numbered-cases ls l m zero e = absurd (true≢false (cc))
 numbered-cases ls l m (suc i) e = counted (element-cases ls l m i e)
   where
     counted : (getElem? ls i ≡ some m) ⊎ ((i ≡ length ls) × (l ≡ m)) → (getElem? ls i ≡ some m) ⊎ ((suc i ≡ length ls + 1) × (l ≡ m))
@@ -55,8 +55,8 @@ pub stands-none : {i : ℕ} {x : Pair} {r : Result} → Stands [] i x r → ⊥
 stands-none {i} {x} {r} h = go i (h .line)
   where
     go : (k : ℕ) → numbered [] k ≡ some (lineOf x r (h .first) (h .second)) → ⊥
-    go zero e = clash (cc)
-    go (suc k) e = clash (cc)
+    go zero e = true≢false (cc)
+    go (suc k) e = true≢false (cc)
 
 -- A line still stands where others are appended.
 pub stands-before : {ls : List Line} (more : List Line) {i : ℕ} {x : Pair} {r : Result} → Stands ls i x r → Stands (ls ++ more) i x r

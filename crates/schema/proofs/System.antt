@@ -1,9 +1,9 @@
 -- The gTS of a grammar on an input is a system of calls: its derivations, halts and loops are those of the system. Assumes nothing.
+use mathlib.Core.Bool.{true≢false}
 use mathlib.Core.Logic.{_↔_}
 use mathlib.Core.List.{List}
 use mathlib.Core.Path.{_≡_, sym, ap, subst}
 use Prim.Native.Nat.{ℕ, _+_, max}
-use Rattle.calls.proofs.Clash.{clash}
 use Rattle.calls.proofs.System as theory
 use Rattle.calls.proofs.System.{System, Kind, Answer, value, halts, loops, Done, Halt, Means}
 use Rattle.grammar.specs.Rule.{Rule}
@@ -38,19 +38,19 @@ gts rule s = record {
 
 pub kind-gives : (a : Act) (r : Result) → kindOf a ≡ theory.Kind.gives r → a ≡ gives r
 kind-gives (gives t) r e = cc
-kind-gives (stops w) r e = absurd (clash (cc))
-kind-gives (calls B C D) r e = absurd (clash (cc))
+kind-gives (stops w) r e = absurd (true≢false (cc))
+kind-gives (calls B C D) r e = absurd (true≢false (cc))
 
 -- The kind tells a stop,
 pub kind-stuck : (a : Act) (w : Stop) → kindOf a ≡ theory.Kind.stuck w → a ≡ stops w
-kind-stuck (gives t) w e = absurd (clash (cc))
+kind-stuck (gives t) w e = absurd (true≢false (cc))
 kind-stuck (stops v) w e = cc
-kind-stuck (calls B C D) w e = absurd (clash (cc))
+kind-stuck (calls B C D) w e = absurd (true≢false (cc))
 
 -- and a call.
 pub kind-calls : (a : Act) → kindOf a ≡ theory.Kind.calls → (B : ℕ) × (C : ℕ) × (D : ℕ) × (a ≡ calls B C D)
-kind-calls (gives t) e = absurd (clash (cc))
-kind-calls (stops v) e = absurd (clash (cc))
+kind-calls (gives t) e = absurd (true≢false (cc))
+kind-calls (stops v) e = absurd (true≢false (cc))
 kind-calls (calls B C D) e = (B, C, D, cc)
 
 -- An answer of the system as an outcome, and back.

@@ -1,12 +1,11 @@
 -- What a step asks holds, and what it does is one of the steps. Assumes nothing.
 use mathlib.Core.Path.{_≡_, refl, sym, ap, _∙_, subst}
-use mathlib.Core.Bool.{Bool, true, false}
+use mathlib.Core.Bool.{Bool, true, false, true≢false}
 use mathlib.Core.List.{List}
 use mathlib.Core.Logic.{inl, inr}
 use Prim.Native.Nat.{ℕ, _≤_, _<_}
 use native.Mathlib.Omega.{arith}
 use lib.ListN.{length, set}
-use Rattle.calls.proofs.Clash.{clash}
 use Rattle.grammar.specs.Rule.{Rule, call}
 use Rattle.schema.specs.Cells.{stored}
 use Rattle.schema.proofs.Cells.{stored-there}
@@ -82,7 +81,7 @@ module _ (rule : ℕ → Rule) (s : List ℕ) where
       → Called rule s T′ true (A at p) z
   second-next {T′ = T′} A p z c r k (first-called {B = B} {C = C} {D = D} e) h m f =
       subst (Called rule s T′ true (A at p)) (sym (f B C D (calls-call (rule A) s p B C D e) ∙ ap (second C D p) (result-is (length s) c r m))) (second-called e h)
-  second-next A p z c r k (second-called e g) h m f = absurd (clash (cc))
+  second-next A p z c r k (second-called e g) h m f = absurd (true≢false (cc))
 
   -- Going on with a result is a step.
   module _ (T W : List ℕ) (x : State) (c : Cell) {r : Result} (code : Settled (length s) (c .0) r) {T₁ : List ℕ} (found : LookedUp rule s T (calledOf x) r T₁)

@@ -1,11 +1,11 @@
 -- The numbers of the machine, the writer and the checker fit 32 bits. Assumes nothing.
+use mathlib.Core.Bool.{true≢false}
 use mathlib.Core.List.{List}
 use mathlib.Core.Option.{some}
 use mathlib.Core.Path.{_≡_, refl, sym, ap, _∙_, subst}
 use Prim.Native.Nat.{ℕ, _≤_}
 use native.Mathlib.Omega.{arith}
 use lib.ListN.{length}
-use Rattle.calls.proofs.Clash.{clash}
 use Rattle.grammar.specs.Refusal.{Checked, refused, accepted}
 use Rattle.grammar.specs.Sheet.{Grammar}
 use Rattle.grammar.proofs.Refusals.{refused-each}
@@ -16,7 +16,7 @@ use Rattle.schema.specs.Machine.{says, spent, noFrame, Ran, ran}
 use Rattle.schema.specs.Table.{code}
 use Rattle.schema.proofs.Handed.{handed-input, handed-pair}
 use Rattle.schema.proofs.Small.{refusal-small, code-small}
-use Rattle.walk.specs.Reply.{outcomeOf, told}
+use Rattle.finish.specs.Reply.{outcomeOf, told}
 use Rattle.writer.specs.Writer.{RepliesWriting, WriterPromise}
 use Rattle.writer.specs.declared.Written.{Written}
 use Rattle.backtrack.specs.Run.{told as ended, Comes, Runs}
@@ -27,7 +27,8 @@ use Rattle.checker.specs.Proper.{claimed}
 use Rattle.checker.specs.declared.Claim.{Claim}
 use Rattle.checker.proofs.Call as checker
 use Rattle.checker.proofs.CheckRefusals.{check-numbers as refusal-numbers}
-use Rattle.test_calls.specs.Numbers.{ranCode, replyCode, claimCode, claimNumbers, CheckNumbers}
+use Rattle.reports.specs.Numbers.{replyCode}
+use Rattle.test_calls.specs.Numbers.{ranCode, claimCode, claimNumbers, CheckNumbers}
 
 -- The code of an outcome that the pair of an accepted question has.
 accepted-code : (s : List ℕ) (h : Handed) (g : Grammar) (A p : ℕ) → handed s h ≡ accepted g → h .pair ≡ some (A at p)
@@ -81,7 +82,7 @@ claim-code A p failure = refl
 
 module _ (s input : List ℕ) (A p : ℕ) (reading : List ℕ) (r : Claim) (checks : Checks s input (A at p) reading r) where
   passed : (c : Claimed) → claims r ≡ accepted c → (o : Checked Grammar) → handed s (asked input (A at p)) ≡ o → claimCode c ≤ 10001
-  passed c f (refused y l) e = let k = checker.call-refused s input (A at p) reading r checks y l e in absurd (clash (cc))
+  passed c f (refused y l) e = let k = checker.call-refused s input (A at p) reading r checks y l e in absurd (true≢false (cc))
   passed c f (accepted g) e =
       let y = checker.call-claims s input (A at p) reading r checks g e c f in
       let t = y .0 in

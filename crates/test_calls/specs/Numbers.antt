@@ -1,12 +1,13 @@
 -- The numbers that the exported calls of machine, writer and checker hand over. Assumes nothing.
-use mathlib.Core.List.{List, [], _∷_}
+use mathlib.Core.List.{List, [], _∷_, _++_}
 use mathlib.Core.Path.{_≡_}
 use Prim.Native.Nat.{ℕ}
 use Rattle.schema.specs.Derivation.{_at_, success, failure, Outcome, result, stopped, loop}
 use Rattle.schema.specs.Exported.{returned, reported}
 use Rattle.schema.specs.Machine.{RunOutcome, says, spent, noFrame, Ran, ran}
 use Rattle.schema.specs.Table.{code}
-use Rattle.walk.specs.Reply.{Reply, reply, outcomeOf, told}
+use Rattle.finish.specs.Reply.{Reply, told}
+use Rattle.reports.specs.Numbers.{questionNumbers}
 use Rattle.writer.specs.Writer.{WriterPromise}
 use Rattle.writer.specs.declared.Written.{Written}
 use Rattle.backtrack.specs.Run.{told as ended, Runs}
@@ -51,13 +52,9 @@ pub record RunNumbers (sheet input : List ℕ) (A p : ℕ) (frames frames′ : L
 
 -- ---- The writer.
 
--- The code of a reply's outcome.
-abbrev pub replyCode : Reply → ℕ
-replyCode a = code (outcomeOf a)
-
--- What the cell of the pair holds, the named variable and the named position (both 0 if none is named), the count of decided cells, the count of lines.
+-- The four numbers of an answer, and the count of lines.
 abbrev pub writerNumbers : ℕ → Reply → List ℕ
-writerNumbers lines (reply o (A at p) count) = code o ∷ A ∷ p ∷ count ∷ lines ∷ []
+writerNumbers lines a = questionNumbers a ++ lines ∷ []
 
 -- The call's promise: that of the writer, with its answer and the count of lines in these numbers.
 pub record WriterNumbers (sheet input : List ℕ) (A p : ℕ) (table table′ work work′ out out′ answer answer′ : List ℕ) (r : ℕ) : Type 0 where

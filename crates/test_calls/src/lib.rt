@@ -2,14 +2,16 @@
 // Each call returns 0 with its numbers in `answer`, or 100 plus the number of a refusal, with everything lent to it unchanged.
 ghost use mathlib.Core.Path.{_≡_};
 ghost use Rattle.schema.specs.Exported.{returned, reported, Fits};
-ghost use Rattle.walk.specs.Reply.{told};
+ghost use Rattle.finish.specs.Reply.{told};
 ghost use Rattle.backtrack.specs.Run.{told as ended};
 ghost use Rattle.checker.specs.Checker.{told as claimed};
-ghost use Rattle.test_calls.specs.Numbers.{ranCode, runNumbers, RunNumbers, replyCode, writerNumbers, WriterNumbers, claimCode, claimNumbers, CheckNumbers};
+ghost use Rattle.reports.specs.Numbers.{replyCode};
+ghost use Rattle.test_calls.specs.Numbers.{ranCode, runNumbers, RunNumbers, writerNumbers, WriterNumbers, claimCode, claimNumbers, CheckNumbers};
 use backtrack::Ending;
 use cells::Cell;
 use checker::Claim;
-use walk::Answer;
+use finish::Answer;
+use reports::report;
 
 // The code of a run whose moves are spent.
 const SPENT: u32 = 10000;
@@ -62,20 +64,13 @@ fn report_written(answer: Answer, lines: u32, out: &mut [u32; 5]) -> u32
     ensures returns { λ r. ⌜ r ≡ returned (told answer) ⌝ }
     ensures reports { λ _. ⌜ now (out .exit) ≡ reported (writerNumbers lines) (now (out .entry)) (told answer) ⌝ }
 {
-    let five = match answer {
-        Answer::Success(end, count) => [Cell::SUCCESS.0 + end, 0, 0, count, lines],
-        Answer::Failure(count) => [Cell::FAILURE.0, 0, 0, count, lines],
-        Answer::Loop(variable, position, count) => [Cell::LOOP.0, variable, position, count, lines],
-        Answer::Missing(variable, position, count) => {
-            [Cell::MISSING.0, variable, position, count, lines]
-        }
-        Answer::End(variable, position, count) => [Cell::END.0, variable, position, count, lines],
-        Answer::Refused(number, _) => {
-            return 100 + number;
-        }
-    };
-    *out = five;
-    0
+    let mut four = [0u32; 4];
+    let code = report(answer, &mut four);
+    if code == 0 {
+        let five = [four[0], four[1], four[2], four[3], lines];
+        *out = five;
+    }
+    code
 }
 
 // The writer's question about a variable at a position of the input, over a lent table, a lent work slice and a lent output. The answer: the

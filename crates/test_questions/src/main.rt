@@ -29,9 +29,9 @@ use backtrack::Ending;
 use checker::Claim;
 use columns::Cursor;
 use columns::Field;
+use finish::Answer;
 use libc::STDOUT_FILENO;
 use rows::write_field;
-use walk::Answer;
 
 // What stands in a table and in an output before a call.
 const UNTOUCHED_NUMBER: u32 = 77777;

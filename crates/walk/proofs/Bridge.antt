@@ -1,11 +1,10 @@
 -- What looking at a pair finds, in the words of the theory of calls: the pair's cell number is a number of the system. Assumes nothing.
-use mathlib.Core.Bool.{Bool}
+use mathlib.Core.Bool.{Bool, true≢false}
 use mathlib.Core.Logic.{inl, _≢_}
 use mathlib.Core.Path.{_≡_, refl, sym, ap, _∙_, subst}
 use mathlib.Core.List.{List, _∷_}
 use Prim.Native.Nat.{ℕ, _≤_}
 use lib.ListN.{length}
-use Rattle.calls.proofs.Clash.{clash}
 use Rattle.calls.proofs.Holding.{holding, holding-free}
 use Rattle.calls.proofs.Invariant.{Inv, Bounded, both-fits}
 use Rattle.calls.proofs.Numbered.{kind-number, first-number, second-number, join-number}
@@ -32,7 +31,7 @@ Free O i = (r : Result) → view mark O i ≢ settled r
 
 -- The latest open pair was not settled before.
 pub top-free : {σ : System ℕ Result Stop} {N root : ℕ} {l : List ℕ} (O T : List ℕ) (i : ℕ) → Inv σ N (view mark O) root (view mark T) (i ∷ l) → Free O i
-top-free O T i inv r e = let t = inv .keeps i r e in let o = inv .on-open i (inl refl) in clash (cc)
+top-free O T i inv r e = let t = inv .keeps i r e in let o = inv .on-open i (inl refl) in true≢false (cc)
 
 module _ (rule : ℕ → Rule) (s : List ℕ) (v : ℕ) (closed : Closed v rule) where
   -- What the cell of a pair does, the pair's rule does.

@@ -9,20 +9,13 @@ use lib.ListN.{length, take}
 use Rattle.grammar.specs.Rule.{Rule}
 use Rattle.schema.specs.Cells.{heldAt}
 use Rattle.schema.specs.Derivation.{Pair, _at_, Outcome}
-use Rattle.schema.specs.Table.{cells, code, decided}
+use Rattle.schema.specs.Table.{cells, decided}
 use Rattle.schema.proofs.Cell.{pairOf, cell-pair, pair-within}
-use Rattle.grammar.specs.Refusal.{accepted}
-use Rattle.walk.specs.Reply.{reply, told}
-use Rattle.walk.specs.Finish.{Finishes}
-use Rattle.walk.specs.declared.Answer.{Answer}
 use Rattle.step.specs.Codes.{openMark}
-use Rattle.walk.specs.Walk.{outcomeOf, namedOf, depthOf, TableEnds, WalkEnds, CloseReady, Closes}
+use Rattle.finish.specs.Closing.{CloseReady, Closes}
+use Rattle.walk.specs.Walk.{depthOf, TableEnds, WalkEnds}
 use Rattle.step.specs.declared.Walk.{Walk}
 use Rattle.walk.proofs.Decided.{decided-same}
-
--- Where no cell is open, there is nothing to close.
-pub none-closes : {N c : ℕ} {T : List ℕ} → ((i : ℕ) → i < N → heldAt T i ≢ openMark) → Closes N c T T
-none-closes n = record { opened = λ i l h. absurd (n i l h); others = λ i d. refl; later = refl; size = refl }
 
 -- Closing decides no cell anew.
 pub closes-counts : {N c : ℕ} (T T′ : List ℕ) → c ≢ 0 → N ≤ length T → Closes N c T T′ → decided (take N T′) ≡ decided (take N T)
@@ -62,8 +55,3 @@ module _ {rule : ℕ → Rule} {s : List ℕ} {v : ℕ} {x : Pair} {O T : List �
   no-open e i l h =
       let o = ends .on-trail _ _ (pair-within v (length s) i l) (ap (λ (j : ℕ). heldAt T j) (cell-pair (length s) i) ∙ h) in
       List·Memᴰ·not-nil (subst (List·Memᴰ (pairOf (length s) i)) e o)
-
--- The last step, by what the walk ended with.
-pub finishes : (n v : ℕ) {count : ℕ} (T T′ : List ℕ) {end : Walk} (r : Answer) (known : Walk) → end ≡ known → Closes (cells v n) (code (outcomeOf known)) T T′
-    → told r ≡ accepted (reply (outcomeOf known) (namedOf known) count) → Finishes n v end count T T′ r
-finishes n v T T′ r known e c t = record { closes = rw e c; says = rw e t }

@@ -2,7 +2,6 @@
 pub mod Marks
 pub mod Bridge
 pub mod RightTable
-pub mod Entry
 pub mod Through
 pub mod Still
 pub mod Ended
@@ -10,7 +9,6 @@ pub mod Standing
 pub mod Stepping
 pub mod Decided
 pub mod Counting
-pub mod Closing
 pub mod Finished
 pub mod Cleared
 pub mod Overs

@@ -17,12 +17,13 @@ use Rattle.schema.proofs.Answer.{reached-cell}
 use Rattle.schema.proofs.Cell.{PairWithin, cell-below}
 use Rattle.schema.proofs.Codes.{code-full}
 use Rattle.schema.proofs.Laws.{has-one}
-use Rattle.walk.specs.Reply.{Reply, reply, told}
-use Rattle.walk.specs.Finish.{FinishReady, Finishes}
+use Rattle.finish.specs.Reply.{Reply, reply, told}
+use Rattle.finish.specs.Finish.{FinishReady, Finishes}
 use Rattle.walk.specs.Over.{OverReady, Over}
 use Rattle.step.specs.Codes.{openMark, Unsettled, Settled, Fits, fresh}
-use Rattle.walk.specs.Walk.{Counts, before, RightTable, WalkReady, WalkEnds, HeldAt, TableMeans, outcomeOf, namedOf, SettledCode}
-use Rattle.walk.specs.declared.Answer.{Answer}
+use Rattle.finish.specs.Closing.{outcomeOf, namedOf}
+use Rattle.walk.specs.Walk.{Counts, before, RightTable, WalkReady, WalkEnds, HeldAt, TableMeans, SettledCode}
+use Rattle.finish.specs.declared.Answer.{Answer}
 use Rattle.step.specs.declared.Walk.{Walk}
 use Rattle.step.specs.declared.Walk.the-variants as walk
 use Rattle.walk.proofs.Decided.{decided-stored, decided-most}

@@ -20,7 +20,7 @@ use Rattle.schema.proofs.Held.{heldCells}
 use Rattle.schema.proofs.Cell.{pairOf, PairWithin, cell-pair, pair-cell}
 use Rattle.cells.specs.Packed.{entry}
 use Rattle.step.specs.Codes.{Settled, Called, first-called, second-called}
-use Rattle.walk.specs.Walk.{Trail, only-asked, called-by}
+use Rattle.finish.specs.Closing.{Trail, only-asked, called-by}
 use Rattle.step.specs.Step.{topOf, calledOf}
 use Rattle.step.specs.declared.State.{State}
 use Rattle.walk.proofs.Marks.{mark}

@@ -1,13 +1,12 @@
 -- Each step of the walk keeps what holds before it, and brings the walk on; or it ends the walk. Assumes nothing.
 use mathlib.Core.Path.{_≡_, refl, sym, ap, _∙_, subst}
-use mathlib.Core.Bool.{Bool, true, false, cond}
+use mathlib.Core.Bool.{Bool, true, false, cond, true≢false}
 use mathlib.Core.List.{List, [], _∷_, map}
 use mathlib.Core.Logic.{inl, inr}
 use Prim.Native.Nat.{ℕ, suc, _+_, _*_, _/_, _≤_, _<_}
 use native.Mathlib.Omega.{arith}
 use lib.ListN.{length, getD, drop, length-set}
 use lib.Seq.{getD-set-same, drop-set-lt}
-use Rattle.calls.proofs.Clash.{clash}
 use Rattle.calls.proofs.Table.{weight, opened}
 use Rattle.grammar.specs.Rule.{Rule, call}
 use Rattle.schema.specs.Cells.{heldAt, stored}
@@ -18,7 +17,8 @@ use Rattle.schema.specs.Table.{cell, cells, held}
 use Rattle.schema.proofs.Cell.{pairOf, PairWithin, cell-below, cell-pair, pair-cell, pair-within}
 use Rattle.cells.specs.Packed.{entry}
 use Rattle.step.specs.Codes.{openMark, Settled, Called, first-called, second-called, Given, by-leaf, by-calls, resultOf}
-use Rattle.walk.specs.Walk.{Trail, nothing-open, before, WalkReady, WalkEnds, TableEnds, outcomeOf, namedOf, depthOf, StopsAt, SettledCode}
+use Rattle.finish.specs.Closing.{Trail, nothing-open, outcomeOf, namedOf}
+use Rattle.walk.specs.Walk.{before, WalkReady, WalkEnds, TableEnds, depthOf, StopsAt, SettledCode}
 use Rattle.step.specs.Step.{LookedUp, settled-before, leaf-settled, topOf, calledOf, StepReady, Seconds, Settles, Returns, Opens, Descends, Stuck, StepEnds, Steps}
 use Rattle.cells.specs.declared.Cell.{Cell}
 use Rattle.step.specs.declared.State.{State}
@@ -27,7 +27,7 @@ use Rattle.step.specs.declared.Walk.{Walk}
 use Rattle.step.specs.declared.Walk.the-variants as walk
 use Rattle.step.proofs.Stepped.{looked-held}
 use Rattle.walk.proofs.Ended.{stops-here, again-ends, stuck-ends, settle-ends}
-use Rattle.walk.proofs.Entry.{entry-parts}
+use Rattle.finish.proofs.Entry.{entry-parts}
 use Rattle.walk.proofs.Still.{room-before, walkable-still}
 use Rattle.walk.proofs.Marks.{mark, stands, settled-not}
 use Rattle.walk.proofs.Standing.{Stacked, alone, above, Standing, called-still, stacked-still, stacked-above, trail-pairs, at-bottom, deep-enough}
@@ -62,7 +62,7 @@ module _ (rule : ℕ → Rule) (s : List ℕ) (v : ℕ) (closed : Closed v rule)
 
   -- A result that is held gives the pair its own, after the second call.
   given-second : {T : List ℕ} {k : Bool} {x y : Pair} {r : Result} → k ≡ true → Called rule s T k x y → Settled (length s) (held (length s) T y) r → Given rule s T x r
-  given-second e (first-called h) m = absurd (clash (cc))
+  given-second e (first-called h) m = absurd (true≢false (cc))
   given-second e (second-called h f) m = by-calls h f m
 
   open-unsettled : {c : ℕ} → c ≡ openMark → (t : Result) → ¬ Settled (length s) c t

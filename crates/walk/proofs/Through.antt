@@ -1,13 +1,12 @@
 -- The walk's table while it goes on: what holds of it, and what each step keeps. Assumes nothing.
 use mathlib.Core.Path.{_≡_, refl, sym, ap, _∙_, subst}
-use mathlib.Core.Bool.{Bool}
+use mathlib.Core.Bool.{Bool, true≢false}
 use mathlib.Core.List.{List, [], _∷_}
 use mathlib.Core.Logic.{_⊎_, inl, inr}
 use Prim.Native.Nat.{ℕ, _≤_, _<_}
 use native.Mathlib.Decide.{ℕ-discrete}
 use native.Mathlib.Omega.{arith}
 use lib.ListN.{length, drop}
-use Rattle.calls.proofs.Clash.{clash}
 use Rattle.calls.proofs.Follow.{In}
 use Rattle.calls.proofs.Holding.{any-kept}
 use Rattle.calls.proofs.Invariant.{Inv, Bounded, inv-start, open-next, settle-top, link-calls, top-reach}
@@ -197,7 +196,7 @@ module _ (rule : ℕ → Rule) (s : List ℕ) (v : ℕ) (closed : Closed v rule)
 
     -- It is not open yet.
     pub open-new : ¬ In (cell (length s) (b at q)) (cell (length s) (a at p) ∷ stack)
-    open-new i = let o = g .inv .on-open (cell (length s) (b at q)) i in let h = open-blank in clash (cc)
+    open-new i = let o = g .inv .on-open (cell (length s) (b at q)) i in let h = open-blank in true≢false (cc)
 
     -- ---- A leaf gets its result at once: it is opened and settled.
 

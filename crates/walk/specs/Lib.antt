@@ -1,5 +1,3 @@
 -- The walk over a table: what it answers, what its steps do, and what it promises.
-pub mod Reply
 pub mod Walk
-pub mod Finish
 pub mod Over

@@ -10,7 +10,7 @@ use Rattle.schema.specs.Closed.{Closed}
 use Rattle.schema.specs.Derivation.{Pair, Outcome, Has}
 use Rattle.schema.specs.Reached.{Named}
 use Rattle.schema.specs.Table.{Within, cells, code, decided, held, Table}
-use Rattle.walk.specs.Reply.{Reply, reply, outcomeOf, countOf}
+use Rattle.finish.specs.Reply.{Reply, reply, outcomeOf, countOf}
 use Rattle.walk.specs.Walk.{Counts, RightTable}
 
 -- What asking over a table is handed: codes of at most 5 + n, whatever else they say.

@@ -1,11 +1,11 @@
 -- The pairs with a result that the question reaches: what such a pair calls is derived in fewer steps, so that no pair comes again among its
 -- callers. Assumes nothing.
+use mathlib.Core.Bool.{true≢false}
 use mathlib.Core.Path.{_≡_, refl, subst}
 use mathlib.Core.List.{List}
 use Prim.Native.Nat.{ℕ, _+_, _<_}
 use native.Mathlib.Omega.{arith}
 use lib.ListN.{length}
-use Rattle.calls.proofs.Clash.{clash}
 use Rattle.grammar.specs.Rule.{Rule}
 use Rattle.schema.specs.Derivation.{Pair, _at_, Result, calls, act, second, Derives, leaf, node}
 use Rattle.schema.specs.Reached.{Reached, first-of, second-of}
@@ -37,7 +37,7 @@ pub record Parts (rule : ℕ → Rule) (s : List ℕ) (B C D p : ℕ) (r : Resul
 
 module _ {rule : ℕ → Rule} {s : List ℕ} where
   pub parts : {A B C D p k h : ℕ} {r : Result} → Derives rule s (A at p) r k h → act rule s (A at p) ≡ calls B C D → Parts rule s B C D p r k
-  parts (leaf f) e = absurd (clash (cc))
+  parts (leaf f) e = absurd (true≢false (cc))
   parts {A} {B} {C} {D} {p} {r = r} (node {B = E} {C = F} {D = G} {k = k} {l = l} {g = g} {h = h} {t = t} f d c) e =
       let q = calls-one f e in
       record {

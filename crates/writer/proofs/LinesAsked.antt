@@ -1,12 +1,11 @@
 -- Asking and writing, step by step: the work slice blanked and the asked pair linked, and the table that the question leaves. Assumes nothing.
 use mathlib.Core.Path.{_≡_, refl, sym, ap, _∙_, subst}
-use mathlib.Core.Bool.{Bool, true, false}
+use mathlib.Core.Bool.{Bool, true, false, true≢false}
 use mathlib.Core.List.{List, []}
 use Prim.Native.Nat.{ℕ, _≤_, _<_}
 use native.Mathlib.Omega.{arith}
 use lib.ListN.{length, getD, set, take, drop, length-set}
 use lib.Seq.{drop-set-lt, getD-set-same, getD-set-other}
-use Rattle.calls.proofs.Clash.{clash}
 use Rattle.grammar.specs.Refusal.{Checked, accepted}
 use Rattle.grammar.specs.Rule.{Rule}
 use Rattle.schema.specs.Derivation.{Pair, _at_, Result, Outcome, result, stopped, loop, Has}
@@ -16,7 +15,7 @@ use Rattle.schema.proofs.Answer.{reached-cell}
 use Rattle.schema.proofs.Cell.{PairWithin, cell-below}
 use Rattle.schema.proofs.Ends.{ends-in, derives-ends}
 use Rattle.schema.proofs.Laws.{has-one}
-use Rattle.walk.specs.Reply.{Reply, reply, outcomeOf}
+use Rattle.finish.specs.Reply.{Reply, reply, outcomeOf}
 use Rattle.memo.specs.Answer.{Says}
 use Rattle.step.specs.Codes.{Settled}
 use Rattle.cells.proofs.Numbers.{cells-small}
@@ -86,11 +85,11 @@ settled-at {rule} {s} T v (A at p) t w h d = record {
 
 result-of : (o : Outcome) (z : Pair) (count : ℕ) → hasResult (accepted (reply o z count)) ≡ true → (r : Result) × (o ≡ result r)
 result-of (result r) z count e = (r, refl)
-result-of (stopped w) z count e = absurd (clash (cc))
-result-of loop z count e = absurd (clash (cc))
+result-of (stopped w) z count e = absurd (true≢false (cc))
+result-of loop z count e = absurd (true≢false (cc))
 
 nothing-written : (rule : ℕ → Rule) (s : List ℕ) (x : Pair) (o : Outcome) (z : Pair) (count : ℕ) → hasResult (accepted (reply o z count)) ≡ false → Lines rule s x o []
-nothing-written rule s x (result r) z count e = absurd (clash (cc))
+nothing-written rule s x (result r) z count e = absurd (true≢false (cc))
 nothing-written rule s x (stopped w) z count e = refl
 nothing-written rule s x loop z count e = refl
 

@@ -1,4 +1,5 @@
 -- There are as many lines as reached pairs: a visit writes no pair twice, and what a written pair calls is written. Assumes nothing.
+use mathlib.Core.Bool.{true≢false}
 use mathlib.Core.HLevel.{⊥-prop}
 use mathlib.Core.Path.{_≡_, refl, sym, ap, _∙_, subst}
 use mathlib.Core.List.{List, [], _∷_, _++_, List·Memᴰ, List·Memᴰ·cases-cons, List·Memᴰ·not-nil, nodup-nil, nodup-cons}
@@ -7,7 +8,6 @@ use Prim.Native.Nat.{ℕ, suc, _+_, _≤_}
 use native.Mathlib.Nat.{le-max-left, le-max-right}
 use native.Mathlib.Omega.{arith}
 use lib.ListN.{length, length-append}
-use Rattle.calls.proofs.Clash.{clash}
 use Rattle.grammar.specs.Rule.{Rule}
 use Rattle.schema.specs.Derivation as derivation
 use Rattle.schema.specs.Derivation.{Pair, _at_, Result, act, gives, calls, second, Derives}
@@ -147,12 +147,12 @@ module _ (rule : ℕ → Rule) (s : List ℕ) where
       whole-more (A at p) r i j (visit-whole w (visit-whole v h)) (whole-calls e (visit-keeps rule s w m) k)
 
   first-in : {ls : List Line} {A B C D p : ℕ} → Whole ls (A at p) → act rule s (A at p) ≡ calls B C D → InLines ls (B at p)
-  first-in (whole-leaf f) e = absurd (clash (cc))
+  first-in (whole-leaf f) e = absurd (true≢false (cc))
   first-in {ls} {p = p} (whole-calls {i = i} {t = t} f m k) e = (i, t, subst (λ (X : ℕ). Stands ls i (X at p) t) (calls-one f e .0) m)
 
   second-in : {ls : List Line} {A B C D p k h : ℕ} {t : Result} → Right rule s ls → Whole ls (A at p) → act rule s (A at p) ≡ calls B C D
       → Derives rule s (B at p) t k h → InLines ls (second C D p t)
-  second-in r (whole-leaf f) e d = absurd (clash (cc))
+  second-in r (whole-leaf f) e d = absurd (true≢false (cc))
   second-in {ls} {C = C} {D = D} {p = p} {t = t} r (whole-calls {B = E} {C = F} {D = G} {i = i} {j = j} {r = q} {t = u} f m k) e d =
       let z = calls-one f e in
       let w = derives-one rule s (r _ u i (subst (λ (X : ℕ). Stands ls i (X at p) u) (z .0) m) .2) d .0 in (

@@ -1,5 +1,5 @@
 -- What the work slice says while the writer goes: the links back to the asked pair, the lines laid down, and what is left to do. Assumes nothing.
-use mathlib.Core.Bool.{cond}
+use mathlib.Core.Bool.{cond, true≢false}
 use mathlib.Core.Path.{_≡_, refl, sym, ap, ap₂, _∙_, subst}
 use mathlib.Core.List.{List, [], _∷_, _++_}
 use mathlib.Core.Logic.{_⊎_, inl, inr, _≢_}
@@ -10,7 +10,6 @@ use borrow.Author.Tests.{eq-eqb, ne-eqb}
 use lib.Dec.{eqb}
 use lib.ListN.{length, getD, set}
 use lib.Seq.{getD-set-same, getD-set-other}
-use Rattle.calls.proofs.Clash.{clash}
 use Rattle.calls.proofs.Count.{sum, sum-put}
 use Rattle.calls.proofs.Follow.{In}
 use Rattle.grammar.specs.Rule.{Rule}
@@ -149,7 +148,7 @@ pub record Noted (rule : ℕ → Rule) (s : List ℕ) (v : ℕ) (W : List ℕ) (
   pub only : (z : Pair) (r : Result) (i : ℕ) → Stands ls i z r → PairWithin v (length s) z × (numberOf (length s) W z ≡ 2 * i) × Has rule s z (result r)
 
 stands-positive : {ls : List Line} {z : Pair} {r : Result} (i : ℕ) → Stands ls i z r → i ≢ 0
-stands-positive zero h e = let k = h .line in clash (cc)
+stands-positive zero h e = let k = h .line in true≢false (cc)
 stands-positive (suc i) h e = omega arith
 
 module _ {rule : ℕ → Rule} {s : List ℕ} {v : ℕ} {W : List ℕ} {ls : List Line} {y : Pair} {way : List Pair} (g : Noted rule s v W ls (y ∷ way)) where

@@ -1,11 +1,11 @@
 -- What the writer writes is one: a visit fixes its lines, and two results that meet the writer's promise for the same call are the same.
 -- Assumes nothing.
+use mathlib.Core.Bool.{true≢false}
 use mathlib.Core.Path.{_≡_, refl, sym, ap, _∙_, subst}
 use mathlib.Core.List.{List, [], _∷_, _++_}
 use mathlib.Core.Logic.{inl, inr}
 use Prim.Native.Nat.{ℕ, _*_}
 use lib.ListN.{length, drop}
-use Rattle.calls.proofs.Clash.{clash}
 use Rattle.grammar.specs.Refusal.{Checked, refused, accepted}
 use Rattle.grammar.specs.Rule.{Rule}
 use Rattle.grammar.specs.Sheet.{Grammar}
@@ -13,7 +13,7 @@ use Rattle.schema.specs.Derivation.{Pair, _at_, Result, second, Outcome, result
 use Rattle.schema.specs.Handed.{Handed, handed, writerOf}
 use Rattle.schema.specs.Line.{Line, lineOf, linesBytes, Stands}
 use Rattle.schema.proofs.Handed.{handed-pair, handed-slices}
-use Rattle.walk.specs.Reply.{outcomeOf, told}
+use Rattle.finish.specs.Reply.{outcomeOf, told}
 use Rattle.memo.proofs.Result.{one-answer, one-table}
 use Rattle.writer.specs.Writer.{Unwritten, Visits, passed, leaf, node, Lines, Writes, RepliesWriting, WriterPromise}
 use Rattle.writer.specs.declared.Written.{Written}
@@ -51,9 +51,9 @@ module _ (rule : ℕ → Rule) (s : List ℕ) where
   visits-one f h (passed {i = i} {r = r} m) (node u e v n w k) = absurd (u i r m)
   visits-one f h (leaf u e) (passed {i = i} {r = r} m) = absurd (u i r m)
   visits-one f h (leaf {before = before} {x = x} {r = r} u e) (leaf {r = t} n d) = let same : r ≡ t = cc in ap (λ (q : Result). before ++ lineOf x q 0 0 ∷ []) same
-  visits-one f h (leaf u e) (node n d v m w k) = absurd (clash (cc))
+  visits-one f h (leaf u e) (node n d v m w k) = absurd (true≢false (cc))
   visits-one f h (node u e v m w k) (passed {i = i} {r = r} n) = absurd (u i r n)
-  visits-one f h (node u e v m w k) (leaf n d) = absurd (clash (cc))
+  visits-one f h (node u e v m w k) (leaf n d) = absurd (true≢false (cc))
   visits-one {before = before} f h (node {middle = middle} {after = after} {A = A} {B = B} {C = C} {D = D} {p = p} {i = i} {j = j} {r = r} {t = t} u e v m w k)
       (node {middle = middle′} {after = after′} {B = E} {C = F} {D = G} {i = i′} {j = j′} {r = r′} {t = t′} u′ e′ v′ m′ w′ k′) =
       let q = calls-one e′ e in

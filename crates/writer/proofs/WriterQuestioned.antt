@@ -19,7 +19,7 @@ use Rattle.schema.specs.Handed.{pairVariableOut, pairPositionOut, callCondition
 use Rattle.schema.specs.Table.{cells}
 use Rattle.schema.proofs.Tested.{handed-refused, handed-then, question-follows}
 use Rattle.rules.proofs.Admitted.{not-admitted}
-use Rattle.walk.specs.Reply.{Reply}
+use Rattle.finish.specs.Reply.{Reply}
 use Rattle.writer.specs.Writer.{SaysWriting, RepliesWriting}
 use Rattle.writer.specs.Writing.{AskWriteReady}
 use Rattle.memo.proofs.Questioned.{read, follows, tested-is, ask-ready}

@@ -9,7 +9,7 @@ use Rattle.grammar.specs.Sheet.{Grammar}
 use Rattle.schema.specs.Derivation.{Pair, _at_, Result, gives, calls, act, second, Outcome, result, stopped, loop}
 use Rattle.schema.specs.Handed.{handed, writerOf}
 use Rattle.schema.specs.Line.{Line, lineOf, linesBytes, Stands}
-use Rattle.walk.specs.Reply.{Reply, outcomeOf, told}
+use Rattle.finish.specs.Reply.{Reply, outcomeOf, told}
 use Rattle.memo.specs.Answer.{Answers}
 use Rattle.writer.specs.declared.Written.{Written}
 

@@ -12,7 +12,7 @@ use Rattle.schema.specs.Derivation.{Pair, _at_, Result, second, result, stopped
 use Rattle.schema.specs.Line.{Line, lineOf, lineBytes, linesBytes}
 use Rattle.schema.specs.Reached.{Reached}
 use Rattle.schema.specs.Table.{cell, cells, held}
-use Rattle.walk.specs.Reply.{Reply, reply}
+use Rattle.finish.specs.Reply.{Reply, reply}
 use Rattle.memo.specs.Ask.{AskReady}
 use Rattle.step.specs.Codes.{Settled, resultOf}
 use Rattle.lines.specs.Turning.{numberOf, link, noLink, Lower, Own, TurnReady}

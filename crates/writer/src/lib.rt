@@ -10,13 +10,14 @@ ghost use Rattle.schema.specs.Derivation.{_at_, Result, second};
 ghost use Rattle.schema.specs.Line.{lineOf, lineBytes};
 ghost use Rattle.schema.specs.Table.{cell, held, cells};
 ghost use Rattle.step.specs.Codes.{Code, Settled, resultOf};
-ghost use Rattle.walk.specs.Reply.{told};
+ghost use Rattle.finish.specs.Reply.{told};
 ghost use Rattle.writer.specs.Writer.{SaysWriting, WriterPromise};
 ghost use Rattle.writer.specs.Writing.{StepReady, Steps, LinesReady, WriteReady, WriteEnds, AskWriteReady, hasResult};
 use cells::Caller;
 use cells::Cell;
 use cells::blank;
 use cells::cell_number;
+use finish::Answer;
 use grammar::sheet::Rules;
 use grammar::sheet::Sheet;
 use lines::Stand;
@@ -28,7 +29,6 @@ use lines::turn_at;
 use memo::ask;
 use memo::too_small;
 use rules::admit;
-use walk::Answer;
 
 // What a step comes to: the next place, or the count of lines at the end.
 enum Step {

@@ -1,66 +1,65 @@
-use mathlib.Core.Path.{refl}
+use mathlib.Core.List.{List, [], _∷_}
+use mathlib.Core.Path.{_≡_, refl, sym, ap, _∙_}
+use Prim.Native.Nat.{ℕ}
 use native.Mathlib.Omega.{arith}
+use lib.ListN.{getD}
 use borrow.Author.Needs.{needs}
+use Rattle.grammar.specs.Refusal.{Checked, refused, accepted}
+use Rattle.schema.specs.Derivation.{_at_}
+use Rattle.schema.specs.Exported.{returned, reported}
+use Rattle.finish.specs.Reply.{Reply, reply, told}
+use Rattle.reports.specs.Numbers.{questionNumbers}
+use Rattle.test_calls.specs.Numbers.{writerNumbers}
 use Rattle.test_calls.proofs.report_written.Statement.{statement}
 use Rattle.test_calls.proofs.report_written.Tie as tie
 
-enum-known-answer : tie.Need-enum-known-answer
-enum-known-answer c = search needs
+-- Where 0 is returned, the four numbers stand before the count of lines.
+five : (o : Checked Reply) (lines : ℕ) (four before answer : List ℕ) → returned o ≡ 0 → four ≡ reported questionNumbers before o
+    → getD four 0 0 ∷ getD four 1 0 ∷ getD four 2 0 ∷ getD four 3 0 ∷ lines ∷ [] ≡ reported (writerNumbers lines) answer o
+five (refused x l) lines four before answer e f = absurd (omega arith)
+five (accepted (reply o (A at p) count)) lines four before answer e f =
+    ap (λ (w : List ℕ). getD w 0 0 ∷ getD w 1 0 ∷ getD w 2 0 ∷ getD w 3 0 ∷ lines ∷ []) f
 
-add-t20 : tie.Need-add-t20
-add-t20 c = let h = rw (c .before .before .answer .given .1) at (c .before .before .before .before .pre) in omega arith
+-- Else nothing is stored.
+none : (o : Checked Reply) (lines : ℕ) (answer : List ℕ) → (returned o ≡ 0 → ⊥) → answer ≡ reported (writerNumbers lines) answer o
+none (refused x l) lines answer d = refl
+none (accepted a) lines answer d = absurd (d refl)
 
-enum-known-answer-2 : tie.Need-enum-known-answer-2
-enum-known-answer-2 c = search needs
+report-requires : tie.Need-report-requires
+report-requires c κs = search needs
 
-enum-known-answer-3 : tie.Need-enum-known-answer-3
-enum-known-answer-3 c = search needs
+array-read-t11 : tie.Need-array-read-t11
+array-read-t11 c = search needs
 
-enum-known-answer-4 : tie.Need-enum-known-answer-4
-enum-known-answer-4 c = search needs
+array-read-t14 : tie.Need-array-read-t14
+array-read-t14 c = search needs
 
-enum-known-answer-5 : tie.Need-enum-known-answer-5
-enum-known-answer-5 c = search needs
+array-read-t17 : tie.Need-array-read-t17
+array-read-t17 c = search needs
 
-enum-known-answer-6 : tie.Need-enum-known-answer-6
-enum-known-answer-6 c = search needs
-
-add-result : tie.Need-add-result
-add-result c = let h = rw (c .before .answer6 .given .1) at (c .before .before .before .pre) in omega arith
+array-read-t20 : tie.Need-array-read-t20
+array-read-t20 c = search needs
 
 returns : tie.Need-returns
-returns c = rw (c .before .answer6 .given .1) (refl, refl)
+returns c =
+    let a = c .before .before .before .args in
+    let r = c .before .report in
+    (r .ensures .0, five (told (a .answer)) (a .lines) _ _ _ (sym (r .ensures .0) ∙ c .if1 .taken) (r .ensures .1))
 
 returns-2 : tie.Need-returns-2
-returns-2 c = rw (c .before .before .answer .given .1) (refl, refl)
-
-returns-3 : tie.Need-returns-3
-returns-3 c = rw (c .before .answer2 .given .1) (refl, refl)
-
-returns-4 : tie.Need-returns-4
-returns-4 c = rw (c .before .answer3 .given .1) (refl, refl)
-
-returns-5 : tie.Need-returns-5
-returns-5 c = rw (c .before .answer4 .given .1) (refl, refl)
-
-returns-6 : tie.Need-returns-6
-returns-6 c = rw (c .before .answer5 .given .1) (refl, refl)
+returns-2 c =
+    let a = c .before .before .before .args in
+    let r = c .before .report in
+    (r .ensures .0, none (told (a .answer)) (a .lines) _ (λ e. c .if1 .left (r .ensures .0 ∙ e)))
 
 pub report-written-spec : {M : Type 1} → statement M
 report-written-spec =
     tie.close
     (tie.spec
-    enum-known-answer
-    add-t20
-    enum-known-answer-2
-    enum-known-answer-3
-    enum-known-answer-4
-    enum-known-answer-5
-    enum-known-answer-6
-    add-result
+    report-requires
+    array-read-t11
+    array-read-t14
+    array-read-t17
+    array-read-t20
     returns
-    returns-2
-    returns-3
-    returns-4
-    returns-5
-    returns-6)
+    returns-2)

@@ -1,5 +1,5 @@
 use borrow.Author.Tests.{not-true, not-false}
-use Rattle.walk.specs.Reply.{told}
+use Rattle.finish.specs.Reply.{told}
 use Rattle.writer.proofs.LinesAsked.{says-nothing, may-write-lines, says-lines}
 use borrow.Author.Needs.{needs}
 use Rattle.writer.proofs.ask_and_write.Statement.{statement}

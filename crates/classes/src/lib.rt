@@ -1,6 +1,6 @@
 // The class of a byte.
 ghost use mathlib.Core.Path.{_≡_};
-ghost use Rattle.grammar.specs.Class.{classOf};
+ghost use Rattle.classes.specs.Class.{classOf};
 
 // The class that the sheet's kind 3 names; the runs of bytes of one class in rising order.
 pub fn class_of(b: u8) -> u8

@@ -6,10 +6,10 @@ use Prim.Native.Nat.{ℕ, _<_}
 use native.Mathlib.Omega.{arith}
 use lib.Dec.{ltb}
 use borrow.Author.Tests.{ltb-true, ltb-false}
-use Rattle.grammar.specs.Class.{classOf, classIn}
-use Rattle.grammar.proofs.ClassRuns.{in-run}
-use Rattle.grammar.proofs.class.class_of.Statement.{statement}
-use Rattle.grammar.proofs.class.class_of.Tie as tie
+use Rattle.classes.specs.Class.{classOf, classIn}
+use Rattle.classes.proofs.ClassRuns.{in-run}
+use Rattle.classes.proofs.class_of.Statement.{statement}
+use Rattle.classes.proofs.class_of.Tie as tie
 
 -- Below byte 32 all but byte 9 are of class 0.
 around : (b : ℕ) → b ≢ 9 → b < 32 → 0 ≡ classOf b

@@ -1,7 +1,7 @@
 use mathlib.Core.Logic.{⊎-elim}
 use borrow.Author.Tests.{eq-eqb, ne-eqb}
-use Rattle.walk.proofs.settled.Statement.{statement}
-use Rattle.walk.proofs.settled.Tie as tie
+use Rattle.finish.proofs.settled.Statement.{statement}
+use Rattle.finish.proofs.settled.Tie as tie
 
 returns : tie.Need-returns
 returns c = rw (eq-eqb _ _ (c .if1 .taken))

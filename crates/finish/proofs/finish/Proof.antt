@@ -1,10 +1,10 @@
 use mathlib.Core.Path.{refl, subst}
-use Rattle.walk.specs.Finish.{FinishReady}
+use Rattle.finish.specs.Finish.{FinishReady}
 use Rattle.step.specs.declared.Walk.the-variants as walk
-use Rattle.walk.proofs.Finished.{none-closes, finishes}
+use Rattle.finish.proofs.Finished.{none-closes, finishes}
 use borrow.Author.Needs.{needs}
-use Rattle.walk.proofs.finish.Statement.{statement}
-use Rattle.walk.proofs.finish.Tie as tie
+use Rattle.finish.proofs.finish.Statement.{statement}
+use Rattle.finish.proofs.finish.Tie as tie
 
 enum-known-end : tie.Need-enum-known-end
 enum-known-end c = search needs

@@ -2,8 +2,8 @@
 use Prim.Native.Nat.{ℕ}
 use Rattle.grammar.specs.Refusal.{Checked, refused, accepted}
 use Rattle.schema.specs.Derivation.{Pair, _at_, success, failure, missing, end, Outcome, result, stopped, loop}
-use Rattle.walk.specs.declared.Answer.{Answer}
-use Rattle.walk.specs.declared.Answer.the-variants.{Success, Failure, Loop, Missing, End, Refused}
+use Rattle.finish.specs.declared.Answer.{Answer}
+use Rattle.finish.specs.declared.Answer.the-variants.{Success, Failure, Loop, Missing, End, Refused}
 
 -- "The result carries the outcome, the named pair if any, and the count of decided (non-blank) cells". No pair is 0 at 0.
 pub data Reply : Type 0 where

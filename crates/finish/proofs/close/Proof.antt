@@ -6,10 +6,10 @@ use Rattle.calls.proofs.Table.{weight}
 use Rattle.schema.specs.Cells.{stored}
 use Rattle.schema.proofs.Cells.{stored-length, view}
 use Rattle.schema.specs.Table.{cells}
-use Rattle.walk.proofs.Closing.{openOr, Closing, begins, top-within, top-in, close-falls, closes, goes-on}
+use Rattle.finish.proofs.Closing.{openOr, Closing, begins, top-within, top-in, close-falls, closes, goes-on}
 use borrow.Author.Needs.{needs}
-use Rattle.walk.proofs.close.Statement.{statement}
-use Rattle.walk.proofs.close.Tie as tie
+use Rattle.finish.proofs.close.Statement.{statement}
+use Rattle.finish.proofs.close.Tie as tie
 
 abbrev Inv-loop : tie.InvT-loop
 Inv-loop n variables b q depth outcome table₀ work a₀ p₀ left₀ table a p left = Closing n variables (outcome .0) table₀ table work a p left

@@ -8,9 +8,9 @@ use Rattle.grammar.specs.Refusal.{accepted}
 use Rattle.schema.specs.Cells.{heldAt}
 use Rattle.schema.specs.Table.{cells, code}
 use Rattle.step.specs.Codes.{Code, openMark}
-use Rattle.walk.specs.Reply.{reply, told}
-use Rattle.walk.specs.Walk.{outcomeOf, namedOf, CloseReady, Closes}
-use Rattle.walk.specs.declared.Answer.{Answer}
+use Rattle.finish.specs.Reply.{reply, told}
+use Rattle.finish.specs.Closing.{outcomeOf, namedOf, CloseReady, Closes}
+use Rattle.finish.specs.declared.Answer.{Answer}
 use Rattle.step.specs.declared.Walk.{Walk}
 use Rattle.step.specs.declared.Walk.the-variants as walk
 

@@ -1,8 +1,8 @@
 use mathlib.Core.Path.{refl}
 use native.Mathlib.Omega.{arith}
 use borrow.Author.Needs.{needs}
-use Rattle.entryreader.proofs.report.Statement.{statement}
-use Rattle.entryreader.proofs.report.Tie as tie
+use Rattle.reports.proofs.report.Statement.{statement}
+use Rattle.reports.proofs.report.Tie as tie
 
 enum-known-answer : tie.Need-enum-known-answer
 enum-known-answer c = search needs

@@ -5,7 +5,7 @@ use Prim.Native.Nat.{ℕ, zero, suc, _+_, _-_, _≤_, _<_}
 use native.Mathlib.Omega.{arith}
 use lib.Dec.{eqb}
 use borrow.Author.Tests.{eqb-true}
-use Rattle.grammar.specs.Class.{classOf}
+use Rattle.classes.specs.Class.{classOf}
 
 -- The n bytes from low on are of the class v.
 abbrev pub allOf : ℕ → ℕ → ℕ → Bool

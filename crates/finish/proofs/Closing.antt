@@ -17,8 +17,8 @@ use Rattle.schema.specs.Table.{Within, cell, cells, held}
 use Rattle.schema.proofs.Cell.{pairOf, PairWithin, cell-below, cell-one, cell-pair, pair-within}
 use Rattle.cells.specs.Packed.{entry}
 use Rattle.step.specs.Codes.{openMark}
-use Rattle.walk.specs.Walk.{Trail, only-asked, called-by, CloseReady, Closes}
-use Rattle.walk.proofs.Entry.{entry-parts}
+use Rattle.finish.specs.Closing.{Trail, only-asked, called-by, CloseReady, Closes}
+use Rattle.finish.proofs.Entry.{entry-parts}
 
 -- Open, or not: what is still to be closed.
 unfoldable pub openOr : ℕ → Mark Result

@@ -1,0 +1,2 @@
+-- What class a byte has.
+pub mod Class

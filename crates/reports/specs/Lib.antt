@@ -1,0 +1,2 @@
+-- What exported calls say of an answer.
+pub mod Numbers
