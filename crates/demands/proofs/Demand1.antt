@@ -17,12 +17,12 @@ use Rattle.schema.proofs.CallRefusals.{call-refused}
 use Rattle.schema.proofs.Codes.{verdict-code-most}
 use Rattle.finish.specs.Reply.{Reply, reply, told}
 use Rattle.memo.specs.Answer.{Replies, QuestionPromise}
-use Rattle.memo.specs.Verdict.{numbers, judged, Judges, VerdictPromise}
+use Rattle.verdict.specs.Verdict.{numbers, judged, Judges, VerdictPromise}
 use Rattle.writer.specs.Writer.{RepliesWriting, WriterPromise}
 use Rattle.finish.specs.declared.Answer.{Answer}
 use Rattle.writer.specs.declared.Written.{Written}
-use Rattle.memo.specs.declared.Judgement.{Judgement}
-use Rattle.memo.specs.declared.Judgement.the-variants.{Recognised, Partial, Failure, Loop, Missing, End, Refused}
+use Rattle.verdict.specs.declared.Judgement.{Judgement}
+use Rattle.verdict.specs.declared.Judgement.the-variants.{Recognised, Partial, Failure, Loop, Missing, End, Refused}
 use Rattle.backtrack.specs.Run as run
 use Rattle.backtrack.specs.declared.Ending.{Ending}
 use Rattle.checker.specs.Checker as checker

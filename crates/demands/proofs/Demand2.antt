@@ -23,9 +23,9 @@ use Rattle.finish.specs.Reply.{Reply, outcomeOf, countOf, told}
 use Rattle.writer.specs.Writer.{Visits, Writes, SaysWriting, RepliesWriting, WriterPromise}
 use Rattle.writer.specs.declared.Written.{Written}
 use Rattle.writer.proofs.LinesNumber.{lines-number}
-use Rattle.memo.specs.Verdict.{numbers, judged, VerdictPromise}
-use Rattle.memo.specs.declared.Judgement.{Judgement}
-use Rattle.memo.proofs.Promised.{verdict-reply}
+use Rattle.verdict.specs.Verdict.{numbers, judged, VerdictPromise}
+use Rattle.verdict.specs.declared.Judgement.{Judgement}
+use Rattle.verdict.proofs.Promised.{verdict-reply}
 use Rattle.memo.proofs.Result.{count-is, outcome-is}
 use Rattle.backtrack.specs.Run as run
 use Rattle.backtrack.specs.declared.Ending.{Ending}

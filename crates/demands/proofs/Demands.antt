@@ -12,10 +12,10 @@ use Rattle.schema.specs.Handed.{Refuses, handed, asked, questionOf, verdictOf, 
 use Rattle.schema.specs.Machine.{says, ran}
 use Rattle.finish.specs.Reply.{Reply, outcomeOf, told}
 use Rattle.memo.specs.Answer.{QuestionPromise}
-use Rattle.memo.specs.Verdict.{numbers, judged, VerdictPromise}
+use Rattle.verdict.specs.Verdict.{numbers, judged, VerdictPromise}
 use Rattle.writer.specs.Writer.{WriterPromise}
 use Rattle.finish.specs.declared.Answer.{Answer}
-use Rattle.memo.specs.declared.Judgement.{Judgement}
+use Rattle.verdict.specs.declared.Judgement.{Judgement}
 use Rattle.writer.specs.declared.Written.{Written}
 use Rattle.backtrack.specs.Run as run
 use Rattle.backtrack.specs.declared.Ending.{Ending}
@@ -31,7 +31,7 @@ use Rattle.demands.proofs.Demand3 as three
 -- ---- Demand 1. "A caller may pass anything .., and the call ends: with an outcome, with the machine's spent or no frame, or with one numbered refusal
 -- under exactly the condition in document 01, its table and output then unchanged." That each call ends and meets its contract, whatever it is
 -- handed, is what the contracts say, which have no `requires`. For the exported calls: entryreader proofs/Demand1.antt;
--- for the program's output: output proofs/Demands.antt.
+-- for the program's output: proofs/Output.antt.
 
 -- The question.
 pub demand-1-question : (s input : List ℕ) (A p : ℕ) (table table′ work work′ : List ℕ) (r : Answer) → QuestionPromise s input A p table table′ work work′ r
@@ -106,7 +106,7 @@ pub demand-2-checker : (s input : List ℕ) (x : Pair) (reading : List ℕ) (r :
     → (g : Grammar) → handed s (asked input x) ≡ accepted g → (t : Result) → Claims r x t ↔ Proper g input reading x t
 demand-2-checker = two.checker-exactly
 
--- "every reading we write passes", with the same outcome and end. For the reading in the program's output: output proofs/Demands.antt.
+-- "every reading we write passes", with the same outcome and end. For the reading in the program's output: proofs/Output.antt.
 pub demand-2-writer : (s input : List ℕ) (A p : ℕ) (table table′ work work′ out out′ : List ℕ) (r : Written) → WriterPromise s input A p table table′ work work′ out out′ r
     → (g : Grammar) → handed s (writerOf input (A at p) (length table) (length work) (length out)) ≡ accepted g
     → (a : Reply) → told (r .answer) ≡ accepted a → (t : Result) → outcomeOf a ≡ result t

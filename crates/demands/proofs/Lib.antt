@@ -3,4 +3,5 @@ pub mod Demand1
 pub mod Passing
 pub mod Demand2
 pub mod Demand3
+pub mod Output
 pub mod Demands

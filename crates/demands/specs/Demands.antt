@@ -11,9 +11,9 @@ use Rattle.schema.specs.Machine.{says, ran, machine}
 use Rattle.schema.specs.Reached.{Reached, Number}
 use Rattle.schema.specs.Table.{Within, cells, decided, held, Holds}
 use Rattle.finish.specs.Reply.{Reply, outcomeOf, countOf}
-use Rattle.memo.specs.Verdict.{numbers}
-use Rattle.memo.specs.declared.Judgement.{Judgement}
-use Rattle.memo.specs.declared.Judgement.the-variants.{Recognised, Partial, Failure, Loop, Missing, End, Refused}
+use Rattle.verdict.specs.Verdict.{numbers}
+use Rattle.verdict.specs.declared.Judgement.{Judgement}
+use Rattle.verdict.specs.declared.Judgement.the-variants.{Recognised, Partial, Failure, Loop, Missing, End, Refused}
 use Rattle.backtrack.specs.Run as run
 use Rattle.backtrack.specs.declared.Ending.{Ending}
 use Rattle.checker.specs.Checker.{Claimed, succeeds, fails, Checks, told}

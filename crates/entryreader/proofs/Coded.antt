@@ -19,9 +19,9 @@ use Rattle.schema.proofs.Handed.{handed-sheet}
 use Rattle.schema.proofs.Laws.{has-one}
 use Rattle.schema.proofs.Small.{refusal-small}
 use Rattle.finish.specs.Reply.{reply}
-use Rattle.memo.specs.Verdict.{numbers, Judges, VerdictPromise}
-use Rattle.memo.specs.Verdict as verdict
-use Rattle.memo.specs.declared.Judgement.{Judgement}
+use Rattle.verdict.specs.Verdict.{numbers, Judges, VerdictPromise}
+use Rattle.verdict.specs.Verdict as verdict
+use Rattle.verdict.specs.declared.Judgement.{Judgement}
 use Rattle.entryreader.specs.Codes.{Coded, VerdictCode, codeOf}
 
 -- A code is at most 111.

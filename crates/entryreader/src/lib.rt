@@ -1,10 +1,10 @@
 // The calls for programs in other languages.
 ghost use Prim.Native.Nat.{_≤_};
 ghost use mathlib.Core.Path.{_≡_};
-ghost use Rattle.memo.specs.Verdict.{numbers};
+ghost use Rattle.verdict.specs.Verdict.{numbers};
 ghost use Rattle.entryreader.specs.Codes.{codeOf, VerdictCode, QuestionNumbers};
-use memo::Judgement;
 use reports::report;
+use verdict::Judgement;
 
 // The code of a verdict, or 100 plus the number of a refusal.
 fn code(judgement: Judgement) -> u32
@@ -29,7 +29,7 @@ pub extern "C" fn entryreader_verdict(sheet: &[u8], input: &[u8]) -> u32
 {
     let mut table = [0u32; 1024];
     let mut work = [0u32; 1024];
-    code(memo::verdict(sheet, input, &mut table, &mut work))
+    code(verdict::verdict(sheet, input, &mut table, &mut work))
 }
 
 // A question about a variable at a position of the input, over a lent table and a lent work slice: 0, with the cell's code, the named

@@ -1,4 +1,4 @@
--- The theorems of a question and of a verdict, about any result that meets the call's contract. Assumes nothing.
+-- The theorems of a question, about any result that meets the call's contract. Assumes nothing.
 use mathlib.Core.Path.{_≡_, refl, sym, ap, _∙_, subst}
 use mathlib.Core.Logic.{_↔_}
 use mathlib.Core.List.{List, [], _∷_, List·Memᴰ}
@@ -12,22 +12,17 @@ use Rattle.grammar.specs.Printing.{text}
 use Rattle.grammar.proofs.Accepted.{describes}
 use Rattle.schema.specs.Cases.{Case, cases, sheetH, header, firstPair}
 use Rattle.schema.specs.Derivation.{_at_, success, Outcome, result, loop, Has}
-use Rattle.schema.specs.Handed.{Handed, handed, questionOf, verdictOf}
+use Rattle.schema.specs.Handed.{Handed, handed, questionOf}
 use Rattle.schema.specs.Reached.{Reached, Number}
 use Rattle.schema.specs.Table.{Within, cells}
 use Rattle.schema.proofs.Cases.{cases-hold}
 use Rattle.schema.proofs.Handed.{handed-sheet, handed-pair, handed-slices}
 use Rattle.schema.proofs.Tested.{question-follows}
 use Rattle.rules.proofs.Admitted.{question-accepted}
-use Rattle.schema.proofs.SheetClosed.{start-within}
 use Rattle.finish.specs.Reply.{Reply, reply, outcomeOf, countOf, told}
 use Rattle.memo.specs.Answer.{Says, Replies, QuestionPromise}
-use Rattle.memo.specs.Verdict.{numbers, judged, Judges, VerdictPromise}
 use Rattle.finish.specs.declared.Answer.{Answer}
-use Rattle.memo.specs.declared.Judgement.{Judgement}
 use Rattle.memo.proofs.Result.{count-is, count-most, outcome-is, answer-is, one-answer, one-table}
-
--- ---- The question.
 
 module _ (s input : List ℕ) (A p : ℕ) (table work : List ℕ) where
   abbrev call : Handed
@@ -123,42 +118,3 @@ unfolding cases
 case-g table table′ work work′ r e f promise =
     case-answered _ (List·Memᴰ.List·Memᴰ·tail (List·Memᴰ.List·Memᴰ·tail (List·Memᴰ.List·Memᴰ·tail (List·Memᴰ.List·Memᴰ·tail (List·Memᴰ.List·Memᴰ·tail (List·Memᴰ.List·Memᴰ·tail
     (List·Memᴰ.List·Memᴰ·head refl))))))) table table′ work work′ r (rw cells-g e) (rw cells-g f) promise
-
--- ---- The verdict.
-
-module _ (s input table work : List ℕ) where
-  abbrev asked : Handed
-  asked = verdictOf input (length table) (length work)
-
-  module _ (g : Grammar) (accepts : handed s (verdictOf input (length table) (length work)) ≡ accepted g) where
-    table-room : cells (g .variables) (length input) ≤ length table
-    table-room = handed-slices s asked g accepts (length table) (length work) refl .0
-
-    -- The numbers of a verdict are those of the outcome that the start variable at 0 has, with the number of reached pairs.
-    pub verdict-reply : (table′ work′ : List ℕ) (r : Judgement) → VerdictPromise s input table table′ work work′ r
-        → (a : Reply) × (numbers r ≡ judged (length input) (accepted a)) × Number (Reached (g .rule) input (g .start at 0)) (countOf a)
-        × ((o : Outcome) → Has (g .rule) input (g .start at 0) o ↔ (outcomeOf a ≡ o))
-    verdict-reply table′ work′ r promise =
-        let j = subst (λ (o : Checked Grammar). Judges o input table table′ work work′ (numbers r)) accepts promise in
-        let a = j .2 in (
-          a .0,
-          j .1 ∙ ap (judged (length input)) (a .1),
-          count-is s asked g accepts (g .start at 0) (start-within s g (handed-sheet s asked g accepts)) table-room (a .2),
-          outcome-is s asked g accepts (g .start at 0) (start-within s g (handed-sheet s asked g accepts)) table-room (a .2),
-        )
-
-  -- One verdict only: the same numbers and the same table.
-  pub one-verdict : (table′ table″ work′ work″ : List ℕ) (r t : Judgement) → VerdictPromise s input table table′ work work′ r
-      → VerdictPromise s input table table″ work work″ t → (numbers r ≡ numbers t) × (table′ ≡ table″)
-  one-verdict table′ table″ work′ work″ r t one other = by-sheet (handed s asked) refl one other
-    where
-      by-sheet : (o : Checked Grammar) → handed s asked ≡ o → Judges o input table table′ work work′ (numbers r)
-          → Judges o input table table″ work work″ (numbers t) → (numbers r ≡ numbers t) × (table′ ≡ table″)
-      by-sheet (refused x l) e m k = (m .0 ∙ sym (k .0), m .1 ∙ sym (k .1))
-      by-sheet (accepted g) e m k =
-          let a = m .2 in
-          let b = k .2 in
-          let same = one-answer s asked g e (g .start at 0) (start-within s g (handed-sheet s asked g e)) (table-room g e) (a .2) (b .2) in (
-            m .1 ∙ ap (judged (length input)) (a .1 ∙ ap accepted same ∙ sym (b .1)) ∙ sym (k .1),
-            one-table s asked g e (g .start at 0) (start-within s g (handed-sheet s asked g e)) (table-room g e) (a .2) (b .2),
-          )

@@ -1,4 +1,3 @@
--- The table engine: the promises of a question and of a verdict.
+-- The table engine: the promise of a question.
 pub mod Answer
 pub mod Ask
-pub mod Verdict

@@ -1,22 +1,18 @@
-// The table engine: questions and verdicts over a lent table.
+// The table engine: questions over a lent table.
 ghost use mathlib.Core.Bool.{_||_};
 ghost use mathlib.Core.Path.{_≡_};
 ghost use Prim.Native.Nat.{_≤_};
-ghost use lib.Dec.{ltb, eqb};
-ghost use lib.ListN.{length};
+ghost use lib.Dec.{ltb};
 ghost use Rattle.grammar.specs.Words.{ruleIn};
 ghost use Rattle.schema.specs.Derivation.{_at_};
 ghost use Rattle.schema.specs.Table.{cells};
-ghost use Rattle.schema.specs.Verdict.{closedBy};
 ghost use Rattle.finish.specs.Reply.{told};
 ghost use Rattle.memo.specs.Answer.{Says, QuestionPromise};
 ghost use Rattle.memo.specs.Ask.{AskReady};
-ghost use Rattle.memo.specs.Verdict.{numbers, judged, VerdictPromise};
 use cells::blank;
 use finish::Answer;
 use grammar::sheet::Rules;
 use grammar::sheet::Sheet;
-use grammar::sheet::read_sheet;
 use rules::admit;
 use walk::ask_over;
 
@@ -70,90 +66,6 @@ pub fn question(
                 return Answer::Refused(10, 0);
             }
             ask(&rules, input, variables, variable, position, table, work)
-        }
-    }
-}
-
-// What a verdict says, with the count of decided cells: recognised or partial with the end, failure; loop, a missing rule or the end of the
-// input with the variable and the position that are named; or the number and the line of a refusal.
-pub enum Judgement {
-    Recognised(u32, u32),
-    Partial(u32, u32),
-    Failure(u32),
-    Loop(u32, u32, u32),
-    Missing(u32, u32, u32),
-    End(u32, u32, u32),
-    Refused(u32, u32),
-}
-
-// Whether a byte is the endmarker.
-fn is_endmarker(byte: u8, endmarker: u32) -> bool
-    ensures { λ r. ⌜ r ≡ eqb byte endmarker ⌝ }
-{
-    byte as u32 == endmarker
-}
-
-// Whether the endmarker is the last byte and stands nowhere else.
-fn closed_by(endmarker: u32, input: &[u8]) -> bool
-    ensures { λ r. ⌜ r ≡ closedBy endmarker (now (input .entry)) ⌝ }
-{
-    let mut i: usize = 0;
-    while i < input.len() {
-        if is_endmarker(input[i], endmarker) {
-            return i + 1 == input.len();
-        }
-        i += 1;
-    }
-    false
-}
-
-// The verdict of an answer about the start variable at 0, on n bytes.
-fn judge(answer: Answer, n: usize) -> Judgement
-    ensures { λ r. ⌜ numbers r ≡ judged n (told answer) ⌝ }
-{
-    match answer {
-        Answer::Success(end, count) => {
-            if end as usize == n {
-                return Judgement::Recognised(end, count);
-            }
-            Judgement::Partial(end, count)
-        }
-        Answer::Failure(count) => Judgement::Failure(count),
-        Answer::Loop(variable, position, count) => Judgement::Loop(variable, position, count),
-        Answer::Missing(variable, position, count) => Judgement::Missing(variable, position, count),
-        Answer::End(variable, position, count) => Judgement::End(variable, position, count),
-        Answer::Refused(number, line) => Judgement::Refused(number, line),
-    }
-}
-
-// The verdict on an input, over a lent table and a lent work slice.
-pub fn verdict(sheet: &[u8], input: &[u8], table: &mut [u32], work: &mut [u32]) -> Judgement
-    ensures { λ r. ⌜ VerdictPromise (now (sheet .entry)) (now (input .entry)) (now (table .entry)) (now (table .exit)) (now (work .entry)) (now (work .exit)) r ⌝ }
-{
-    let mut rules: Rules = [0u32; 256];
-    let read = read_sheet(sheet, &mut rules);
-    match read {
-        Sheet::Refused(number, line) => Judgement::Refused(number, line),
-        Sheet::Read(grammar) => {
-            if 4096 < input.len() {
-                return Judgement::Refused(6, 0);
-            }
-            if !closed_by(grammar.endmarker, input) {
-                return Judgement::Refused(7, 0);
-            }
-            if too_small(grammar.variables, input.len(), table.len(), work.len()) {
-                return Judgement::Refused(10, 0);
-            }
-            let answer = ask(
-                &rules,
-                input,
-                grammar.variables,
-                grammar.start,
-                0,
-                table,
-                work,
-            );
-            judge(answer, input.len())
         }
     }
 }

@@ -6,9 +6,9 @@ use native.Mathlib.Omega.{arith}
 use lib.ListN.{length, getD, take, drop, length-append, drop-of-length-le}
 use lib.Seq.{take-all, take-at, drop-at, drop-drop}
 use borrow.Rule.Slice.PartMut.{putMid, midOf, postOf}
-use Rattle.memo.specs.Verdict.{numbers}
-use Rattle.memo.specs.declared.Judgement.{Judgement}
-use Rattle.memo.specs.declared.Judgement.the-variants.{Recognised, Partial, Failure, Loop, Missing, End, Refused}
+use Rattle.verdict.specs.Verdict.{numbers}
+use Rattle.verdict.specs.declared.Judgement.{Judgement}
+use Rattle.verdict.specs.declared.Judgement.the-variants.{Recognised, Partial, Failure, Loop, Missing, End, Refused}
 
 -- The four numbers of a verdict, one by one.
 pub four-numbers : (j : Judgement) → getD (numbers j) 0 0 ∷ getD (numbers j) 1 0 ∷ getD (numbers j) 2 0 ∷ getD (numbers j) 3 0 ∷ [] ≡ numbers j

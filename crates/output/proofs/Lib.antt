@@ -6,4 +6,3 @@ pub mod Joined
 pub mod Whole
 pub mod Length
 pub mod OneOutput
-pub mod Demands

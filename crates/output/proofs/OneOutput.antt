@@ -15,7 +15,7 @@ use Rattle.schema.specs.Line.{Line, linesBytes}
 use Rattle.schema.specs.Reached.{Named}
 use Rattle.schema.proofs.Laws.{has-one, named-one, number-one}
 use Rattle.finish.specs.Reply.{reply}
-use Rattle.memo.specs.Verdict.{judged}
+use Rattle.verdict.specs.Verdict.{judged}
 use Rattle.writer.specs.Writer.{Lines}
 use Rattle.writer.proofs.OneWritten.{lines-one}
 use Rattle.output.specs.Output.{Printed, Printing, PutsWhere, OutputPromise}

@@ -18,9 +18,9 @@ use Rattle.schema.proofs.Laws.{has-one}
 use Rattle.schema.proofs.LineLength.{lines-length}
 use Rattle.schema.proofs.SheetClosed.{start-within}
 use Rattle.finish.specs.Reply.{reply, outcomeOf, countOf, told}
-use Rattle.memo.specs.Verdict.{numbers, judged, Judges, VerdictPromise}
+use Rattle.verdict.specs.Verdict.{numbers, judged, Judges, VerdictPromise}
 use Rattle.writer.specs.Writer.{Lines, Writes, SaysWriting, RepliesWriting}
-use Rattle.memo.specs.declared.Judgement.{Judgement}
+use Rattle.verdict.specs.declared.Judgement.{Judgement}
 use Rattle.memo.proofs.Result.{count-is}
 use Rattle.output.specs.Output.{Printing, Writing, Certificate}
 use Rattle.output.proofs.Accepting.{writer-accepted}

@@ -7,8 +7,8 @@ use lib.ListN.{length, getD, drop, length-drop, length-append}
 use borrow.Rule.Slice.PartMut.{putMid, midOf, postOf}
 use Rattle.columns.specs.Column.{row}
 use Rattle.columns.proofs.Rows.{row-length}
-use Rattle.memo.specs.Verdict.{numbers, VerdictPromise}
-use Rattle.memo.specs.declared.Judgement.{Judgement}
+use Rattle.verdict.specs.Verdict.{numbers, VerdictPromise}
+use Rattle.verdict.specs.declared.Judgement.{Judgement}
 use Rattle.output.specs.Output.{Certificate, Puts}
 use Rattle.output.proofs.Printed.{behind}
 use Rattle.output.proofs.Joined.{four-numbers, lent-is, joined}

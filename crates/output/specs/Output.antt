@@ -15,7 +15,7 @@ use Rattle.schema.specs.Handed.{handed, verdictOf}
 use Rattle.schema.specs.Line.{Line, linesBytes}
 use Rattle.schema.specs.Reached.{Reached, Named, Number}
 use Rattle.finish.specs.Reply.{reply}
-use Rattle.memo.specs.Verdict.{judged}
+use Rattle.verdict.specs.Verdict.{judged}
 use Rattle.writer.specs.Writer.{Lines, WriterPromise}
 use Rattle.writer.specs.declared.Written.{Written}
 

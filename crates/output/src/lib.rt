@@ -1,12 +1,12 @@
 // The whole output of the program `readentry`.
 ghost use mathlib.Core.Path.{_≡_};
 ghost use lib.ListN.{length};
-ghost use Rattle.memo.specs.Verdict.{numbers};
+ghost use Rattle.verdict.specs.Verdict.{numbers};
 ghost use Rattle.output.specs.Output.{StartOf, Certificate, OutputPromise};
 use grammar::sheet::Sheet;
 use grammar::sheet::read_sheet;
-use memo::Judgement;
 use rows::write_row;
+use verdict::Judgement;
 use writer::write;
 
 pub mod program;
@@ -66,7 +66,7 @@ pub fn write_output(sheet: &[u8], input: &[u8], out: &mut [u8]) -> usize
     }
     let mut table = [0u32; 1024];
     let mut work = [0u32; 1024];
-    let four = numbers_of(memo::verdict(sheet, input, &mut table, &mut work));
+    let four = numbers_of(verdict::verdict(sheet, input, &mut table, &mut work));
     let code = four[0];
     write_row(&mut out[0..33], 8, &[code, four[1], four[2], four[3]]);
     let lines = certificate(sheet, input, code, &mut table, &mut work, &mut out[33..]);

@@ -303,22 +303,18 @@ fn run_damage(
     check(number, sheet, entry, r, out, lines);
 }
 
-// Runs a request on its sheet and its entry.
-fn run(
-    number: u32,
-    sheet: &[u8],
-    entry: &[u8],
-    r: Request,
-    table: &mut [u32],
-    work: &mut [u32],
-    out: &mut [u8],
-) {
+// Runs a request on its sheet and its entry, over slices of its own.
+fn run(number: u32, sheet: &[u8], entry: &[u8], r: Request) {
+    let mut table = [0u32; 65536];
+    let mut work = [0u32; 65536];
+    let mut out = [0u8; 262144];
+    fill_numbers(&mut work);
     let task = r.task;
     match task {
-        0 => run_question(number, sheet, entry, r, table, work),
-        1 => run_machine(number, sheet, entry, r, work),
-        2 => run_reading(number, sheet, entry, r, table, work, out),
-        3 => run_damage(number, sheet, entry, r, table, work, out),
+        0 => run_question(number, sheet, entry, r, &mut table, &mut work),
+        1 => run_machine(number, sheet, entry, r, &mut work),
+        2 => run_reading(number, sheet, entry, r, &mut table, &mut work, &mut out),
+        3 => run_damage(number, sheet, entry, r, &mut table, &mut work, &mut out),
         _ => print_fault(number),
     }
 }
@@ -345,15 +341,7 @@ fn size(x: u32) -> usize {
 }
 
 // Takes the entry of a request, and runs it.
-fn run_on_sheet(
-    number: u32,
-    sheet: &[u8],
-    entries: &[u8],
-    numbers: &[u32; 9],
-    table: &mut [u32],
-    work: &mut [u32],
-    out: &mut [u8],
-) {
+fn run_on_sheet(number: u32, sheet: &[u8], entries: &[u8], numbers: &[u32; 9]) {
     let start = size(numbers[2]);
     let length = size(numbers[3]);
     if entries.len() < length {
@@ -370,19 +358,11 @@ fn run_on_sheet(
         x: numbers[7],
         y: numbers[8],
     };
-    run(number, sheet, &entries[start..end], r, table, work, out);
+    run(number, sheet, &entries[start..end], r);
 }
 
 // Takes the sheet of a request, and runs it.
-fn run_numbers(
-    number: u32,
-    sheets: &[u8],
-    entries: &[u8],
-    numbers: &[u32; 9],
-    table: &mut [u32],
-    work: &mut [u32],
-    out: &mut [u8],
-) {
+fn run_numbers(number: u32, sheets: &[u8], entries: &[u8], numbers: &[u32; 9]) {
     let start = size(numbers[0]);
     let length = size(numbers[1]);
     if sheets.len() < length {
@@ -392,32 +372,16 @@ fn run_numbers(
         return print_fault(number);
     }
     let end = start + length;
-    run_on_sheet(
-        number,
-        &sheets[start..end],
-        entries,
-        numbers,
-        table,
-        work,
-        out,
-    );
+    run_on_sheet(number, &sheets[start..end], entries, numbers);
 }
 
 // Runs the request of a line.
-fn run_line(
-    number: u32,
-    line: &[u8],
-    sheets: &[u8],
-    entries: &[u8],
-    table: &mut [u32],
-    work: &mut [u32],
-    out: &mut [u8],
-) {
+fn run_line(number: u32, line: &[u8], sheets: &[u8], entries: &[u8]) {
     let mut numbers = [0u32; 9];
     if !read_numbers(line, &mut numbers) {
         return print_fault(number);
     }
-    run_numbers(number, sheets, entries, &numbers, table, work, out);
+    run_numbers(number, sheets, entries, &numbers);
 }
 
 // The end of the line that starts at a position: 73 bytes further, or the text's end.
@@ -432,38 +396,20 @@ fn line_end(start: usize, length: usize) -> usize
 }
 
 // Runs the request of each line.
-fn run_lines(
-    questions: &[u8],
-    sheets: &[u8],
-    entries: &[u8],
-    table: &mut [u32],
-    work: &mut [u32],
-    out: &mut [u8],
-) {
+fn run_lines(questions: &[u8], sheets: &[u8], entries: &[u8]) {
     let mut number: u32 = 0;
     let mut at: usize = 0;
     while at < questions.len() {
         let end = line_end(at, questions.len());
         number = number % 99999999 + 1;
-        run_line(
-            number,
-            &questions[at..end],
-            sheets,
-            entries,
-            table,
-            work,
-            out,
-        );
+        run_line(number, &questions[at..end], sheets, entries);
         at = end;
     }
 }
 
-// Runs all requests over slices of its own, and prints how many bytes were read of each file.
+// Runs all requests, and prints how many bytes were read of each file.
 fn run_all(questions: &[u8], sheets: &[u8], entries: &[u8]) {
-    let mut table = [0u32; 65536];
-    let mut work = [0u32; 65536];
-    let mut out = [0u8; 262144];
-    run_lines(questions, sheets, entries, &mut table, &mut work, &mut out);
+    run_lines(questions, sheets, entries);
     let read = Four(
         low_digits(sheets.len()),
         low_digits(entries.len()),

@@ -1,5 +1,5 @@
 use lib.ListN.{replicate}
-use Rattle.memo.specs.Verdict.{numbers}
+use Rattle.verdict.specs.Verdict.{numbers}
 use Rattle.entryreader.specs.Codes.{VerdictCode, codeOf}
 use Rattle.entryreader.proofs.Coded.{verdict-coded, coded-small}
 use borrow.Author.Needs.{needs}

@@ -1,4 +1,3 @@
-use mathlib.Core.Path.{_≡_}
 use Prim.Native.Nat.{_≤_, _-_}
 use lib.ListN.{length}
 use borrow.Author.Needs.{needs}
@@ -6,10 +5,10 @@ use Rattle.test_questions.proofs.run_lines.Statement.{statement}
 use Rattle.test_questions.proofs.run_lines.Tie as tie
 
 abbrev Inv-loop : tie.InvT-loop
-Inv-loop questions sheets entries table₀ work₀ out₀ number₀ at₀ table work out number at = (at ≤ length questions) × (length table ≡ length table₀) × (length work ≡ length work₀) × (length out ≡ length out₀)
+Inv-loop questions sheets entries number₀ at₀ number at = at ≤ length questions
 
 abbrev μ-loop : tie.MeasureT-loop
-μ-loop questions sheets entries table₀ work₀ out₀ number₀ at₀ table work out number at = length questions - at
+μ-loop questions sheets entries number₀ at₀ number at = length questions - at
 
 loop-holds : tie.Need-loop-holds Inv-loop μ-loop
 loop-holds c = search needs
@@ -38,15 +37,6 @@ loop-less c = search needs
 loop-again : tie.Need-loop-again Inv-loop μ-loop
 loop-again c = search needs
 
-same-length : tie.Need-same-length Inv-loop μ-loop
-same-length c = search needs
-
-same-length-2 : tie.Need-same-length-2 Inv-loop μ-loop
-same-length-2 c = search needs
-
-same-length-3 : tie.Need-same-length-3 Inv-loop μ-loop
-same-length-3 c = search needs
-
 returns : tie.Need-returns Inv-loop μ-loop
 returns c = search needs
 
@@ -65,7 +55,4 @@ run-lines-spec =
     run-line-requires
     loop-less
     loop-again
-    same-length
-    same-length-2
-    same-length-3
     returns)

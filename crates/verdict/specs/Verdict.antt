@@ -9,9 +9,9 @@ use Rattle.schema.specs.Derivation.{_at_, success, failure, Outcome, result, st
 use Rattle.schema.specs.Handed.{handed, verdictOf}
 use Rattle.schema.specs.Verdict.{verdictCode}
 use Rattle.finish.specs.Reply.{Reply, reply}
 use Rattle.memo.specs.Answer.{Says}
-use Rattle.memo.specs.declared.Judgement.{Judgement}
-use Rattle.memo.specs.declared.Judgement.the-variants.{Recognised, Partial, Failure, Loop, Missing, End, Refused}
+use Rattle.verdict.specs.declared.Judgement.{Judgement}
+use Rattle.verdict.specs.declared.Judgement.the-variants.{Recognised, Partial, Failure, Loop, Missing, End, Refused}
 
 -- "code (0 recognised, 1 failure, 2 loop, 3 missing, 4 end, 5 partial, 9 refused), named variable or refusal number,
 -- place (end, named place, refused line, or 0), cells (0 if refused)": what each case of a verdict says.

@@ -1,10 +1,10 @@
 use mathlib.Core.Path.{refl, sym, _∙_}
 use borrow.Author.Tests.{lt-ltb, le-ltb, not-true, not-false}
-use Rattle.memo.proofs.Judged.{refused-sheet, few, refused-then, ask-ready, judges}
+use Rattle.verdict.proofs.Judged.{refused-sheet, few, refused-then, ask-ready, judges}
 use native.Mathlib.Omega.{arith}
 use borrow.Author.Needs.{needs}
-use Rattle.memo.proofs.verdict.Statement.{statement}
-use Rattle.memo.proofs.verdict.Tie as tie
+use Rattle.verdict.proofs.verdict.Statement.{statement}
+use Rattle.verdict.proofs.verdict.Tie as tie
 
 read-sheet-requires : tie.Need-read-sheet-requires
 read-sheet-requires c κs = search needs

@@ -3,10 +3,10 @@ use Prim.Native.Nat.{_≤_, _-_}
 use native.Mathlib.Omega.{arith}
 use lib.ListN.{length, drop}
 use Rattle.schema.specs.Verdict.{closedBy}
-use Rattle.memo.proofs.Endmarker.{passed-at, found-at, none-at}
+use Rattle.verdict.proofs.Endmarker.{passed-at, found-at, none-at}
 use borrow.Author.Needs.{needs}
-use Rattle.memo.proofs.closed_by.Statement.{statement}
-use Rattle.memo.proofs.closed_by.Tie as tie
+use Rattle.verdict.proofs.closed_by.Statement.{statement}
+use Rattle.verdict.proofs.closed_by.Tie as tie
 
 abbrev Inv-loop : tie.InvT-loop
 Inv-loop endmarker input i₀ i = (i ≤ length input) × (closedBy endmarker input ≡ closedBy endmarker (drop i input))

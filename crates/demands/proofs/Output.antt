@@ -23,14 +23,14 @@ use Rattle.schema.proofs.Codes.{verdict-code-most}
 use Rattle.schema.proofs.Small.{refusal-small, refusal-line}
 use Rattle.rules.proofs.Admitted.{question-accepted}
 use Rattle.finish.specs.Reply.{reply}
-use Rattle.memo.specs.Verdict.{positionFor, judged}
+use Rattle.verdict.specs.Verdict.{positionFor, judged}
 use Rattle.writer.specs.Writer.{Lines}
 use Rattle.checker.specs.Checker.{Checks}
 use Rattle.checker.specs.Proper.{Claims}
 use Rattle.checker.specs.declared.Claim.{Claim}
 use Rattle.demands.proofs.Demand2.{lines-pass}
 use Rattle.output.specs.Output.{Printing, Puts, PutsWhere, OutputPromise}
 use Rattle.output.proofs.Accepting.{writer-accepted}
 
 -- The first line of an answer: its code first, and 33 bytes.
 code-first : (n : ℕ) (o : Outcome) (z : Pair) (count : ℕ) → (rest : List ℕ) × (row 8 (judged n (accepted (reply o z count))) ≡ column 8 (verdictCode n o) ++ rest)

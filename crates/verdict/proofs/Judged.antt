@@ -21,10 +21,10 @@ use Rattle.schema.specs.Verdict.{closedBy}
 use Rattle.schema.proofs.SheetClosed.{start-within}
 use Rattle.schema.proofs.Tested.{handed-refused, verdict-by}
 use Rattle.finish.specs.Reply.{Reply}
 use Rattle.memo.specs.Answer.{Says}
 use Rattle.memo.specs.Ask.{AskReady}
-use Rattle.memo.specs.Verdict.{judged, Judges}
+use Rattle.verdict.specs.Verdict.{judged, Judges}
 use Rattle.memo.proofs.Ready.{few-variables, ready, says-of}
 
 module _ {s before after : List ℕ} {r : Sheet} (promise : SheetPromise s before after r) (input table work : List ℕ) where
   -- Refused with the sheet.

@@ -1,8 +1,8 @@
 use mathlib.Core.Path.{refl}
 use borrow.Author.Tests.{eq-eqb, ne-eqb}
 use borrow.Author.Needs.{needs}
-use Rattle.memo.proofs.judge.Statement.{statement}
-use Rattle.memo.proofs.judge.Tie as tie
+use Rattle.verdict.proofs.judge.Statement.{statement}
+use Rattle.verdict.proofs.judge.Tie as tie
 
 enum-known-answer : tie.Need-enum-known-answer
 enum-known-answer c = search needs

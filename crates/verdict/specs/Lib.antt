@@ -1,0 +1,2 @@
+-- The promise of a verdict.
+pub mod Verdict
