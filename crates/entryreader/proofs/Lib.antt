@@ -2,3 +2,4 @@
 pub mod Coded
 pub mod Reported
 pub mod Demand1
+pub mod Shortened

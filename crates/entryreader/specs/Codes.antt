@@ -1,6 +1,6 @@
 -- The numbers that the exported calls hand over. Assumes nothing.
 use mathlib.Core.Bool.{cond}
-use mathlib.Core.List.{List}
+use mathlib.Core.List.{List, [], _∷_}
 use mathlib.Core.Path.{_≡_}
 use Prim.Native.Nat.{ℕ, _+_}
 use lib.Dec.{eqb}
@@ -15,6 +15,8 @@ use Rattle.finish.specs.Reply.{told}
 use Rattle.reports.specs.Numbers.{questionNumbers}
 use Rattle.memo.specs.Answer.{QuestionPromise}
 use Rattle.finish.specs.declared.Answer.{Answer}
+use Rattle.shorthand.specs.Promise.{told as compiles, CompilePromise}
+use Rattle.shorthand.specs.declared.Compiled.{Compiled}
 
 -- ---- The verdict.
 
@@ -40,3 +42,16 @@ pub record QuestionNumbers (sheet input : List ℕ) (A p : ℕ) (table table′ 
   pub promise : QuestionPromise sheet input A p table table′ work work′ found
   pub returns : r ≡ returned (told found)
   pub reports : answer′ ≡ reported questionNumbers answer (told found)
+
+-- ---- The shorthand.
+
+-- The one number of its answer: the sheet's length.
+abbrev pub lengthNumbers : ℕ → List ℕ
+lengthNumbers n = n ∷ []
+
+-- The call's promise: that of `compile`, with its answer in this number.
+pub record ShorthandNumbers (text out out′ answer answer′ : List ℕ) (r : ℕ) : Type 0 where
+  pub found : Compiled
+  pub promise : CompilePromise text out out′ found
+  pub returns : r ≡ returned (compiles found)
+  pub reports : answer′ ≡ reported lengthNumbers answer (compiles found)

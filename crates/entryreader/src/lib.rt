@@ -1,9 +1,12 @@
 // The calls for programs in other languages.
 ghost use Prim.Native.Nat.{_≤_};
 ghost use mathlib.Core.Path.{_≡_};
+ghost use Rattle.schema.specs.Exported.{returned, reported, Fits};
+ghost use Rattle.shorthand.specs.Promise.{told};
 ghost use Rattle.verdict.specs.Verdict.{numbers};
-ghost use Rattle.entryreader.specs.Codes.{codeOf, VerdictCode, QuestionNumbers};
+ghost use Rattle.entryreader.specs.Codes.{codeOf, VerdictCode, QuestionNumbers, lengthNumbers, ShorthandNumbers};
 use reports::report;
+use shorthand::Compiled;
 use verdict::Judgement;
 
 // The code of a verdict, or 100 plus the number of a refusal.
@@ -48,4 +51,29 @@ pub extern "C" fn entryreader_question(
 {
     let found = memo::question(sheet, input, variable, position, table, work);
     report(found, answer)
+}
+
+// Stores the length of a sheet, and returns 0; or 100 plus the number of a refusal.
+fn report_length(compiled: Compiled, out: &mut [u32; 1]) -> u32
+    requires { ⌜ Fits (λ n. n) (told compiled) ⌝ }
+    ensures returns { λ r. ⌜ r ≡ returned (told compiled) ⌝ }
+    ensures reports { λ _. ⌜ now (out .exit) ≡ reported lengthNumbers (now (out .entry)) (told compiled) ⌝ }
+{
+    match compiled {
+        Compiled::Length(n) => {
+            *out = [n as u32];
+            0
+        }
+        Compiled::Refused(number, _) => 100 + number,
+    }
+}
+
+// The rule sheet of a text of the shorthand, at the front of the output: 0, with the sheet's length in the answer; or 100 plus the number of a
+// refusal, with nothing changed.
+#[no_mangle]
+pub extern "C" fn entryreader_shorthand(text: &[u8], out: &mut [u8], answer: &mut [u32; 1]) -> u32
+    ensures { λ r. ⌜ ShorthandNumbers (now (text .entry)) (now (out .entry)) (now (out .exit)) (now (answer .entry)) (now (answer .exit)) r ⌝ }
+{
+    let compiled = shorthand::compile(text, out);
+    report_length(compiled, answer)
 }

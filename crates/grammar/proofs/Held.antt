@@ -45,7 +45,7 @@ rule-for-word (call B C D) f =
     let r : D - 1 + 1 ≡ D = omega arith in
     rw (highest 5 (B - 1) (C - 1) (D - 1) x y z, second 5 (B - 1) (C - 1) (D - 1) x y z, third 5 (B - 1) (C - 1) (D - 1) x y z, lowest 5 (B - 1) (C - 1) (D - 1) x y z, p, q, r)
 
-fits-more : (v : ℕ) (r : Rule) → v ≤ 256 → Fits v r → Fits 256 r
+pub fits-more : (v : ℕ) (r : Rule) → v ≤ 256 → Fits v r → Fits 256 r
 fits-more v absent l f = tt
 fits-more v always l f = tt
 fits-more v never l f = tt

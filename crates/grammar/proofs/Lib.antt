@@ -11,6 +11,7 @@ pub mod Accepted
 pub mod Held
 pub mod Told
 pub mod Text
+pub mod Listed
 pub mod Printed
 pub mod Sheets
 pub mod SheetRefusals

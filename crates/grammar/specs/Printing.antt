@@ -1,8 +1,8 @@
 -- Document 01, "The rule sheet": the sheet that is printed from a grammar. Assumes nothing.
-use mathlib.Core.Bool.{cond}
+use mathlib.Core.Bool.{Bool, true, false, cond}
 use mathlib.Core.List.{List, [], _∷_, _++_, map}
 use mathlib.Core.Path.{_≡_}
-use Prim.Native.Nat.{ℕ, _≤_, _<_}
+use Prim.Native.Nat.{ℕ, zero, suc, _≤_, _<_}
 use lib.Dec.{eqb}
 use Rattle.columns.specs.Column.{row}
 use Rattle.grammar.specs.Rule.{Rule, absent, always, never, byte, class, call, Fits}
@@ -33,6 +33,24 @@ ruleRows rules = map (λ r. ruleNumbers (r .0) (r .1)) rules
 -- The sheet of V, the start variable, the endmarker byte, and the variables that have a rule, each with its rule.
 unfoldable pub printed : ℕ → ℕ → ℕ → List (ℕ × Rule) → List ℕ
 printed v start endmarker rules = text (headerNumbers v start endmarker ∷ ruleRows rules)
+
+-- Is there no rule?
+abbrev pub isAbsent : Rule → Bool
+isAbsent absent = true
+isAbsent always = false
+isAbsent never = false
+isAbsent (byte b) = false
+isAbsent (class c) = false
+isAbsent (call B C D) = false
+
+-- Of the variables A, A + 1, .., k of them, those that have a rule, each with its rule.
+unfoldable pub rulesFrom : (ℕ → Rule) → ℕ → ℕ → List (ℕ × Rule)
+rulesFrom rule zero A = []
+rulesFrom rule (suc k) A = cond (isAbsent (rule A)) (rulesFrom rule k (suc A)) ((A, rule A) ∷ rulesFrom rule k (suc A))
+
+-- Of the variables 1 to V.
+abbrev pub rulesOf : ℕ → (ℕ → Rule) → List (ℕ × Rule)
+rulesOf v rule = rulesFrom rule v 1
 
 -- "A variable with no line has no rule": the rule of variable A among these.
 unfoldable pub listed : List (ℕ × Rule) → ℕ → Rule

@@ -94,7 +94,7 @@ module _ (s input : List ℕ) (A p : ℕ) (reading : List ℕ) (r : Claim) (chec
   check-fits = by-claim (claims r) refl
     where
       by-claim : (o : Checked Claimed) → claims r ≡ o → Fits claimCode o
-      by-claim (refused y l) e = check-small s input (A at p) reading y l (sym checks ∙ e)
+      by-claim (refused y l) e = let k = check-small s input (A at p) reading y l (sym checks ∙ e) in omega arith
       by-claim (accepted c) e = passed c e (handed s (asked input (A at p))) refl
 
   -- The numbers of the answer are those of the definition.

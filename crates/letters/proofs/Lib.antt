@@ -1,0 +1,3 @@
+-- Laws of the numbering of letters.
+pub mod Lettered
+pub mod Progress

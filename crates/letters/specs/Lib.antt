@@ -1,0 +1,2 @@
+-- The letters of a text and their numbers.
+pub mod Numbering

@@ -1,0 +1,22 @@
+-- Laws of the shorthand.
+pub mod Small
+pub mod OneMore
+pub mod Acts
+pub mod Forward
+pub mod Backward
+pub mod Outcome
+pub mod Taken
+pub mod Emitted
+pub mod EmittedLines
+pub mod Letters
+pub mod Ranks
+pub mod Assembled
+pub mod Read
+pub mod States
+pub mod Written
+pub mod Capitals
+pub mod FewLetters
+pub mod Found
+pub mod SameNumbers
+pub mod Texts
+pub mod TextRefusals

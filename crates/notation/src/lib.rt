@@ -1,0 +1,1 @@
+// The societies' shorthand: definitions and laws.

@@ -1,0 +1,3 @@
+-- Proofs of the writer of a sheet.
+pub mod Numbers
+pub mod Putting

@@ -1,0 +1,2 @@
+-- The sheet of an array of rules.
+pub mod Listing
