@@ -21,6 +21,14 @@ unsafe extern "C" {
         work_length: usize,
         answer: *mut [u32; 4],
     ) -> u32;
+
+    fn entryreader_shorthand(
+        text: *const u8,
+        text_length: usize,
+        out: *mut u8,
+        out_length: usize,
+        answer: *mut [u32; 1],
+    ) -> u32;
 }
 
 /// 0 to 5, or 100 plus the number of a refusal.
@@ -52,6 +60,20 @@ pub fn question(
             table.len(),
             work.as_mut_ptr(),
             work.len(),
+            answer,
+        )
+    }
+}
+
+/// 0 with the sheet's length in `answer`, or 100 plus the number of a refusal.
+pub fn shorthand(text: &[u8], out: &mut [u8], answer: &mut [u32; 1]) -> u32 {
+    // SAFETY: the call has no precondition; it reads the first slice, and writes inside the two that are lent exclusively.
+    unsafe {
+        entryreader_shorthand(
+            text.as_ptr(),
+            text.len(),
+            out.as_mut_ptr(),
+            out.len(),
             answer,
         )
     }

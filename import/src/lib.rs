@@ -1,7 +1,7 @@
 //! Safe calls of the entry reader, whose code is proved: see the contracts of `crates/entryreader`.
 //!
 //! ```
-//! use import::{Answer, Verdict, question, verdict};
+//! use import::{Answer, Verdict, question, shorthand, verdict};
 //!
 //! // A sign, or none; then a digit and a full stop.
 //! let sheet = b"    6    1   46    0    0
@@ -17,6 +17,11 @@
 //! let (mut table, mut work) = ([0; 24], [0; 24]);
 //! let answer = question(sheet, b"-6.", 1, 0, &mut table, &mut work);
 //! assert_eq!(answer, Answer::Success { end: 3, cells: 5 });
+//!
+//! // The same in the shorthand, the digits 0 and 6 alone.
+//! let mut out = [0; 2_000];
+//! let length = shorthand(b"S='-'D/D\nD=('0'/'6')'.'\n", &mut out).expect("it is of the form");
+//! assert_eq!(verdict(&out[..length], b"-6."), Verdict::Recognised);
 //! ```
 #![warn(missing_docs)]
 
@@ -55,10 +60,18 @@ pub enum Refusal {
     Place,
     /// 10: the table or the work slice has fewer than V times (n + 1) numbers.
     Room,
+    /// 11: the output has fewer than 26 times (allowance + 1) bytes.
+    Output,
+    /// 15: the text is empty, not of the shorthand's form, or defines a letter twice.
+    Text,
+    /// 16: brackets nest over 16 deep.
+    Nesting,
+    /// 17: the allowance of the text is over 256.
+    Allowance,
 }
 
 impl Refusal {
-    /// The refusal of a number from 1 to 10.
+    /// The refusal of a number from 1 to 11 or from 15 to 17.
     pub fn from_number(number: u32) -> Option<Refusal> {
         let refusal = match number {
             1 => Refusal::NotLines,
@@ -71,6 +84,10 @@ impl Refusal {
             8 => Refusal::Variable,
             9 => Refusal::Place,
             10 => Refusal::Room,
+            11 => Refusal::Output,
+            15 => Refusal::Text,
+            16 => Refusal::Nesting,
+            17 => Refusal::Allowance,
             _ => return None,
         };
         Some(refusal)
@@ -184,5 +201,18 @@ pub fn question(
             end: cell - 5,
             cells,
         },
+    }
+}
+
+/// The rule sheet of a text of the societies' shorthand, written at the front of `out`: its length. What stands behind it is unchanged, and
+/// after a refusal all of it.
+///
+/// A line is a capital, `=`, rows parted by `/`, and a line feed; a row is capitals, bytes between single quotes, `%`, and rows in round or
+/// square brackets. The letters are variables 1, 2 and so on by first appearance; the sheet's start is 1 and its endmarker the full stop.
+pub fn shorthand(text: &[u8], out: &mut [u8]) -> Result<usize, Refusal> {
+    let mut length = [0];
+    match calls::shorthand(text, out, &mut length) {
+        0 => Ok(length[0] as usize),
+        code => Err(refusal(code)),
     }
 }

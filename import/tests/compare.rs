@@ -4,6 +4,7 @@
 mod comparison;
 mod lent;
 mod questions;
+mod random;
 mod recognizer;
 
 use comparison::Comparison;
@@ -58,7 +59,7 @@ fn long_comparison() {
 /// A change in a lent slice, or just outside it, is noticed.
 #[test]
 fn guards_notice() {
-    let mut random = questions::Random(10);
+    let mut random = random::Random(10);
     let mut lent = lent::Lent::<u32>::any(&mut random, 3);
     lent.slice().copy_from_slice(&[1, 2, 3]);
     assert!(lent.holds(&[1, 2, 3]) && lent.keeps_from(3));

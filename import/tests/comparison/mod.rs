@@ -1,6 +1,7 @@
 //! Each call beside the recognizer: what it returns, its answer, and every lent slice with the guards around it.
 use crate::lent::Lent;
-use crate::questions::{self, Case, Random};
+use crate::questions::{self, Case};
+use crate::random::Random;
 use crate::recognizer::{self, Answered, Ending, Outcome, Ran, Size, Written, bytes, code};
 use import::{Answer, Pair, Refusal, Verdict, test_calls};
 use std::collections::{BTreeMap, BTreeSet};

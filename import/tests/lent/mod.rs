@@ -1,5 +1,5 @@
 //! Slices to lend: the middle of a longer vector, with guard numbers on both sides.
-use crate::questions::Random;
+use crate::random::Random;
 
 const GUARD: usize = 8;
 
