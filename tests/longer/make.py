@@ -18,17 +18,18 @@ crates/test_questions/src/main.rt.
 """
 import argparse
 import collections
-import importlib.util
 import os
-import shutil
 import subprocess
 import sys
 import tempfile
 import threading
 
-import questions
-
 HERE = os.path.dirname(os.path.abspath(__file__))
+sys.path.append(os.path.join(HERE, ".."))
+
+import questions
+from making import Store, install, line, load_reference, stop
+
 CRATE = os.path.join(HERE, "..", "..", "crates", "test_questions")
 
 CLASSES = "48-57:1,65-90:2,97-122:3,9:4,32:4,33-47:5,58-64:5,91-96:5,123-126:5,128-255:6"
@@ -48,9 +49,6 @@ LPEG_CALLS = 3000000    # LPeg is asked where it takes at most so many calls
 LPEG_SECONDS = 120
 
 
-def stop(text): sys.exit("make.py: " + text)
-
-
 # ---------------------------------------------------------------- parameters
 
 def class_table(ranges):
@@ -68,19 +66,11 @@ def read_ranges(text):
     return ",".join(text.replace(",", " ").split())
 
 
-def load_reference(path, classes):
+def reference_with(path, classes):
     """The module reader.py with other classes."""
-    spec = importlib.util.spec_from_file_location("reader", path)
-    module = importlib.util.module_from_spec(spec)
-    spec.loader.exec_module(module)
+    module = load_reference(path)
     module.class_of = lambda b, order=0: classes[b]
     return module
-
-
-def install():
-    """lua5.4 and LPeg from Debian, where they are absent."""
-    found = shutil.which("lua5.4") and subprocess.run(["lua5.4", "-e", 'require "lpeg"'], stderr=subprocess.DEVNULL).returncode == 0
-    if not found: subprocess.run(["apt-get", "install", "-y", "lua5.4", "lua-lpeg"], check=True)
 
 
 # ---------------------------------------------------------------- the judges
@@ -147,25 +137,6 @@ class Reference:
 
 
 # ---------------------------------------------------------------- files
-
-class Store:
-    """Pieces one after the other; a piece that stands there already is found again."""
-
-    def __init__(self): self.data = bytearray()
-
-    def place(self, piece):
-        at = self.data.find(piece)
-        if at < 0:
-            at = len(self.data)
-            self.data += piece
-        return at, len(piece)
-
-
-def line(*numbers):
-    out = "".join(f"{x:8}" for x in numbers)
-    if len(out) != 8 * len(numbers): stop(f"a number is too wide: {numbers}")
-    return out.encode() + b"\n"
-
 
 def summed(numbers):
     total = 0
@@ -382,7 +353,7 @@ def make(options):
     ranges = read_ranges(options.classes)
     classes = class_table(ranges)
     install()
-    reference = Reference(load_reference(options.reference, classes))
+    reference = Reference(reference_with(options.reference, classes))
     with tempfile.TemporaryDirectory() as folder:
         maker = Maker(reference, Judge(ranges, folder))
         asked = []
