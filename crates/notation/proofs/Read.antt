@@ -11,16 +11,11 @@ use borrow.Author.Tests.{eqb-false, ne-eqb}
 use Rattle.grammar.specs.Refusal.{accepted}
 use Rattle.notation.specs.Text.{Bracket, round, square, opener, closer, Item, letter, quoted, fails, inside, Row, empty, next, Choice, only, or, Line, line, itemText, rowText, choiceText, linesText, itemDepth, rowDepth, choiceDepth, lineOf, capital}
 use Rattle.notation.specs.Form.{ItemForm, RowForm, ChoiceForm, EachForm, Once, LinesForm}
-use Rattle.notation.specs.Scan.{Part, part, withItem, whole, Open, opened, State, before, choosing, goes, defined, chooses, step, finish, after, scan, linesOf}
+use Rattle.notation.specs.Scan.{Part, part, withItem, whole, partOf, Open, opened, State, before, choosing, goes, defined, chooses, step, finish, after, scan, linesOf}
 use Rattle.notation.proofs.Small.{no-line}
 use Rattle.notation.proofs.OneMore.{defined-more}
 
--- The choice, before its end is met.
-abbrev partOf : Choice → Part
-partOf (only r) = part none r
-partOf (or c r) = part (some c) r
-
-whole-part : (c : Choice) → whole (partOf c) ≡ c
+pub whole-part : (c : Choice) → whole (partOf c) ≡ c
 whole-part (only r) = refl
 whole-part (or c r) = refl
 

@@ -21,6 +21,11 @@ abbrev pub whole : Part → Choice
 whole (part none r) = only r
 whole (part (some c) r) = or c r
 
+-- The rows of a choice, before its end is met.
+abbrev pub partOf : Choice → Part
+partOf (only r) = part none r
+partOf (or c r) = part (some c) r
+
 -- An open bracket, and what stands before it in its choice.
 pub data Open : Type 0 where
   opened : Bracket → Part → Open

@@ -8,10 +8,10 @@ use native.Mathlib.Omega.{arith}
 use lib.ListN.{length, drop, getD}
 use Rattle.grammar.specs.Rule.{byte, call}
 use Rattle.notation.specs.Emit.{Rules, Made, made, put, joined, bracketed, itemRules, rowRules, choiceRules}
-use Rattle.notation.specs.Scan.{Part, part, withItem, opened, choosing, scan}
+use Rattle.notation.specs.Scan.{Part, part, withItem, opened, choosing, scan, partOf}
 use Rattle.notation.specs.Text.{Bracket, opener, closer, Item, letter, quoted, fails, inside, empty, next, Choice, only, or, capital, itemCost, rowCost, choiceCost}
 use Rattle.pieces.specs.Store.{capped, Stored, StoredMade, Few, moved, Makes}
-use Rattle.pieces.specs.Piece.{beginsItem, Moves, Refuses, partOf, Kind, items, rows, choices, Finds, Reads, EndsItem, EndsRow, EndsChoice, Ready}
+use Rattle.pieces.specs.Piece.{beginsItem, Moves, Refuses, Kind, items, rows, choices, Finds, Reads, EndsItem, EndsRow, EndsChoice, Ready}
 use Rattle.pieces.specs.declared.Read.{Read}
 use Rattle.pieces.specs.declared.Read.the-variants.{Found, Fault}
 use Rattle.pieces.specs.declared.Piece.{Piece}

@@ -11,15 +11,11 @@ use lib.ListN.{length, getD, drop, List·getD-eq-default, drop-of-length-le}
 use lib.Seq.{drop-cons}
 use borrow.Author.Tests.{ne-eqb}
 use Rattle.grammar.specs.Refusal.{refused}
-use Rattle.notation.specs.Scan.{Part, part, withItem, whole, Open, opened, State, choosing, quoting, unquoting, before, faults, ends, step, chooses, finish, after, scan}
+use Rattle.notation.specs.Scan.{Part, part, withItem, partOf, Open, opened, State, choosing, quoting, unquoting, before, faults, ends, step, chooses, finish, after, scan}
 use Rattle.notation.specs.Text.{Bracket, round, square, opener, closer, letter, quoted, fails, inside, empty, Choice, only, or, Line, line, capital}
-use Rattle.pieces.specs.Piece.{beginsItem, Moves, Refuses, partOf}
+use Rattle.notation.proofs.Read.{whole-part}
+use Rattle.pieces.specs.Piece.{beginsItem, Moves, Refuses}
 use Rattle.pieces.proofs.Bytes.{other}
-
--- The rows that are read are the choice.
-pub whole-is : (c : Choice) → whole (partOf c) ≡ c
-whole-is (only r) = refl
-whole-is (or c r) = refl
 
 module _ (s : List ℕ) (q : ℕ) where
   -- A byte that is not 0 stands before the end.
@@ -55,7 +51,7 @@ module _ (s : List ℕ) (q : ℕ) where
     pub slash-moves : getD s q 0 ≡ 47 → (c : Choice) → Moves s depth q (partOf c) (q + 1) (part (some c) empty)
     unfolding step chooses
     slash-moves e c ls A os d =
-        byte-is 47 (choosing ls A os (partOf c)) (omega arith) e ∙ ap (λ (y : Choice). scan (drop (q + 1) s) (choosing ls A os (part (some y) empty))) (whole-is c)
+        byte-is 47 (choosing ls A os (partOf c)) (omega arith) e ∙ ap (λ (y : Choice). scan (drop (q + 1) s) (choosing ls A os (part (some y) empty))) (whole-part c)
 
     pub too-deep : (k : Bracket) → getD s q 0 ≡ opener k → depth ≡ 16 → (x : Part) → Refuses s depth q x 16
     unfolding step chooses
@@ -73,10 +69,10 @@ module _ (s : List ℕ) (q : ℕ) where
   unfolding step chooses
   closes-bracket round e c x ls A os =
       byte-is 41 (choosing ls A (opened round x ∷ os) (partOf c)) (omega arith) e
-      ∙ ap (λ (y : Choice). scan (drop (q + 1) s) (choosing ls A os (withItem x (inside round y)))) (whole-is c)
+      ∙ ap (λ (y : Choice). scan (drop (q + 1) s) (choosing ls A os (withItem x (inside round y)))) (whole-part c)
   closes-bracket square e c x ls A os =
       byte-is 93 (choosing ls A (opened square x ∷ os) (partOf c)) (omega arith) e
-      ∙ ap (λ (y : Choice). scan (drop (q + 1) s) (choosing ls A os (withItem x (inside square y)))) (whole-is c)
+      ∙ ap (λ (y : Choice). scan (drop (q + 1) s) (choosing ls A os (withItem x (inside square y)))) (whole-part c)
 
   -- What neither goes on nor ends the choice is refused, and so is the end of the text.
   stops : (ls : List Line) (A : ℕ) (os : List Open) (x : Part) → beginsItem (getD s q 0) ≡ false → (getD s q 0 ≡ 47 → ⊥) → ends ls A os x (getD s q 0) ≡ faults 15
@@ -103,7 +99,7 @@ module _ (s : List ℕ) (q : ℕ) where
       → scan (drop q s) (choosing ls A [] (partOf c)) ≡ scan (drop (q + 1) s) (before (ls ++ line A c ∷ []))
   unfolding step chooses
   line-ends e c ls A =
-      byte-is 10 (choosing ls A [] (partOf c)) (omega arith) e ∙ ap (λ (y : Choice). scan (drop (q + 1) s) (before (ls ++ line A y ∷ []))) (whole-is c)
+      byte-is 10 (choosing ls A [] (partOf c)) (omega arith) e ∙ ap (λ (y : Choice). scan (drop (q + 1) s) (before (ls ++ line A y ∷ []))) (whole-part c)
 
 -- ---- A byte between single quotes.
 

@@ -8,7 +8,7 @@ use lib.Dec.{eqb}
 use lib.ListN.{length, drop, getD}
 use Rattle.grammar.specs.Refusal.{refused}
 use Rattle.notation.specs.Emit.{Rules, Made, itemRules, rowRules, choiceRules}
-use Rattle.notation.specs.Scan.{Part, part, withItem, Open, choosing, scan}
+use Rattle.notation.specs.Scan.{Part, part, withItem, partOf, Open, choosing, scan}
 use Rattle.notation.specs.Text.{Item, Row, empty, Choice, only, or, Line, capital, itemCost, rowCost, choiceCost}
 use Rattle.pieces.specs.Store.{capped, Stored, StoredMade, Few}
 use Rattle.pieces.specs.declared.Piece.{Piece}
@@ -40,11 +40,6 @@ pub record Kind : Type 1 where
   pub behind : Context → Of → Part
   pub rulesOf : Of → Rules → Made
   pub costOf : Of → ℕ
-
--- A choice that has been read, its last row not closed yet.
-abbrev pub partOf : Choice → Part
-partOf (only r) = part none r
-partOf (or c r) = part (some c) r
 
 -- By the variable of each capital, and E, the variable that always succeeds; the one behind E always fails.
 module _ (number : ℕ → ℕ) (E : ℕ) where

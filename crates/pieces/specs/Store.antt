@@ -12,8 +12,8 @@ abbrev pub capped : ℕ → ℕ
 capped n = min n 257
 
 -- The variable of a capital letter, by an array of 26.
-abbrev pub numberIn : List ℕ → ℕ → ℕ
-numberIn numbers A = getD numbers (A - 65) 0
+abbrev pub numberHeld : List ℕ → ℕ → ℕ
+numberHeld numbers A = getD numbers (A - 65) 0
 
 -- These words and this last variable are those of the rules, as long as the variables are 256 at most.
 abbrev pub Stored : Rules → ℕ → List ℕ → Type 0

@@ -8,7 +8,7 @@ ghost use Rattle.grammar.specs.Rule.{Rule, byte, call};
 ghost use Rattle.grammar.specs.Words.{word};
 ghost use Rattle.notation.specs.Emit.{put, joined, bracketed};
 ghost use Rattle.notation.specs.Text.{Bracket, closer};
-ghost use Rattle.pieces.specs.Store.{capped, numberIn, Few, Makes};
+ghost use Rattle.pieces.specs.Store.{capped, numberHeld, Few, Makes};
 ghost use Rattle.pieces.specs.Piece.{closing, beginsItem, items, rows, choices, Reads, EndsItem, EndsRow, EndsChoice, Ready, LeafReady};
 use grammar::sheet::Rules;
 
@@ -204,7 +204,7 @@ fn read_quoted(s: &[u8], from: Piece, rules: &mut Rules) -> Read
 // An item that is no bracket. Each item costs 3.
 fn read_leaf(s: &[u8], numbers: &[u32; 26], always: u32, from: Piece, rules: &mut Rules) -> Read
     requires { ⌜ LeafReady (now s) (now numbers) always from ⌝ }
-    ensures { λ r. ⌜ ((depth : ℕ) → Reads (items (numberIn (now (numbers .entry))) always) (now (s .entry)) depth from (now (rules .entry)) (EndsItem from) r (now (rules .exit))) ⌝ }
+    ensures { λ r. ⌜ ((depth : ℕ) → Reads (items (numberHeld (now (numbers .entry))) always) (now (s .entry)) depth from (now (rules .entry)) (EndsItem from) r (now (rules .exit))) ⌝ }
 {
     let at = from.at;
     let b = byte_at(s, at);
@@ -227,7 +227,7 @@ pub fn read_choice(
     rules: &mut Rules,
 ) -> Read
     requires { ⌜ Ready (now s) (now numbers) always depth from ⌝ }
-    ensures { λ r. ⌜ Reads (choices (numberIn (now (numbers .entry))) always) (now (s .entry)) depth from (now (rules .entry)) (EndsChoice (now (s .entry))) r (now (rules .exit)) ⌝ }
+    ensures { λ r. ⌜ Reads (choices (numberHeld (now (numbers .entry))) always) (now (s .entry)) depth from (now (rules .entry)) (EndsChoice (now (s .entry))) r (now (rules .exit)) ⌝ }
 {
     let first = read_row(s, numbers, always, from, depth, rules);
     let Read::Found(row) = first else {
@@ -258,7 +258,7 @@ fn read_row(
     rules: &mut Rules,
 ) -> Read
     requires { ⌜ Ready (now s) (now numbers) always depth from ⌝ }
-    ensures { λ r. ⌜ Reads (rows (numberIn (now (numbers .entry))) always) (now (s .entry)) depth from (now (rules .entry)) (EndsRow (now (s .entry))) r (now (rules .exit)) ⌝ }
+    ensures { λ r. ⌜ Reads (rows (numberHeld (now (numbers .entry))) always) (now (s .entry)) depth from (now (rules .entry)) (EndsRow (now (s .entry))) r (now (rules .exit)) ⌝ }
 {
     let mut here = Piece {
         at: from.at,
@@ -289,7 +289,7 @@ fn read_item(
     rules: &mut Rules,
 ) -> Read
     requires { ⌜ Ready (now s) (now numbers) always depth from × (beginsItem (getD (now s) (from .at) 0) ≡ true) ⌝ }
-    ensures { λ r. ⌜ Reads (items (numberIn (now (numbers .entry))) always) (now (s .entry)) depth from (now (rules .entry)) (EndsItem from) r (now (rules .exit)) ⌝ }
+    ensures { λ r. ⌜ Reads (items (numberHeld (now (numbers .entry))) always) (now (s .entry)) depth from (now (rules .entry)) (EndsItem from) r (now (rules .exit)) ⌝ }
 {
     let at = from.at;
     let closing = closer_of(byte_at(s, at));

@@ -13,8 +13,7 @@ use Rattle.grammar.specs.Words.{words, ruleIn}
 use Rattle.grammar.proofs.Fitting.{within-both}
 use Rattle.grammar.proofs.Listed.{rules-of-words}
 use Rattle.grammar.proofs.Words.{words-none}
-use Rattle.notation.specs.Capitals as found
-use Rattle.notation.specs.Capitals.{capitals}
+use Rattle.notation.specs.Capitals.{capitals, numberIn}
 use Rattle.notation.specs.Emit.{Rules, rules, lineRules, atFirst, stored}
 use Rattle.notation.specs.Form.{Bytes}
 use Rattle.notation.specs.Judged.{judged}
@@ -30,7 +29,7 @@ use Rattle.notation.proofs.SameNumbers.{lines-same}
 use Rattle.notation.proofs.TextRefusals.{judged-refused, judged-over, judged-short, judged-accepted}
 use Rattle.notation.proofs.Texts.{accepted-exactly, text-letters, text-assembled}
 use Rattle.letters.specs.Numbering.{Numbers}
-use Rattle.pieces.specs.Store.{capped, numberIn, Stored, Few}
+use Rattle.pieces.specs.Store.{capped, numberHeld, Stored, Few}
 use Rattle.pieces.specs.declared.Piece.{Piece}
 use Rattle.pieces.specs.declared.Read.{Read}
 use Rattle.pieces.specs.declared.Read.the-variants.{Found, Fault}
@@ -49,8 +48,8 @@ abbrev pub firstWords : ℕ → List ℕ
 firstWords count = set (set (replicate 256 0) count 16777216) (count + 1) 33554432
 
 -- A number that an array has of letters is at most their count.
-number-most : (xs : List ℕ) (A : ℕ) → found.numberIn xs A ≤ length xs
-unfolding found.numberIn
+number-most : (xs : List ℕ) (A : ℕ) → numberIn xs A ≤ length xs
+unfolding numberIn
 number-most xs A = go (among A xs) refl
   where
     go : (t : Bool) → among A xs ≡ t → cond t (rank xs A) 0 ≤ length xs
@@ -70,7 +69,7 @@ module _ (s numbers : List ℕ) (count : ℕ) (n : Numbers (firsts [] (capitals 
           let h = n .held (i + 65) (within-both 65 90 (i + 65) (omega arith) (omega arith)) in
           let m = number-most (firsts [] (capitals s)) (i + 65) in
           let f = letters-few s in
-          let g : getD numbers i 0 ≡ found.numberIn (firsts [] (capitals s)) (i + 65) = rw e at h in
+          let g : getD numbers i 0 ≡ numberIn (firsts [] (capitals s)) (i + 65) = rw e at h in
           omega arith
       go (no d) = let z = n .size in let h : length numbers ≤ i = omega arith in omega (arith, List·getD-eq-default numbers 0 h)
 
@@ -88,7 +87,7 @@ module _ (s numbers : List ℕ) (count : ℕ) (n : Numbers (firsts [] (capitals 
         };
       }
 
-  module _ (u : Bytes s) (ws : List ℕ) (p : Piece) (f : LinesFound (numberIn numbers) (count + 1) s (beginning count) (firstWords count) p ws) where
+  module _ (u : Bytes s) (ws : List ℕ) (p : Piece) (f : LinesFound (numberHeld numbers) (count + 1) s (beginning count) (firstWords count) p ws) where
     abbrev ls : List Line
     ls = f .lines
 
@@ -99,17 +98,17 @@ module _ (s numbers : List ℕ) (count : ℕ) (n : Numbers (firsts [] (capitals 
     count-is = n .counted ∙ ap length letters-are
 
     -- The letters of the lines have their numbers in the array.
-    numbered : (A : ℕ) → among A (lettersOf (f .lines)) ≡ true → numberIn numbers A ≡ numberOf (f .lines) A
+    numbered : (A : ℕ) → among A (lettersOf (f .lines)) ≡ true → numberHeld numbers A ≡ numberOf (f .lines) A
     numbered A a =
         let form = accepted-exactly s (f .lines) u .0 (f .lines-are) in
         let same : capitals s ≡ lettersOf (f .lines) = ap capitals (form .0) ∙ lines-capitals (f .lines) (form .1 .each-line) in
         let known = capital-among (capitals s) A (capitals-all s 0) (rw same a) in
-        n .held A known ∙ ap (λ xs. found.numberIn xs A) letters-are ∙ number-known (letters (f .lines)) A (lines-known (f .lines) A a)
+        n .held A known ∙ ap (λ xs. numberIn xs A) letters-are ∙ number-known (letters (f .lines)) A (lines-known (f .lines) A a)
 
-    rules-are : lineRules (numberIn numbers) (count + 1) (count + 1 + 1) (f .lines) (atFirst count) ≡ stored (f .lines)
+    rules-are : lineRules (numberHeld numbers) (count + 1) (count + 1 + 1) (f .lines) (atFirst count) ≡ stored (f .lines)
     rules-are =
         let e : count + 1 + 1 ≡ count + 2 = omega arith in
-        lines-same (numberIn numbers) (numberOf (f .lines)) (count + 1) (count + 1 + 1) (f .lines) numbered (atFirst count)
+        lines-same (numberHeld numbers) (numberOf (f .lines)) (count + 1) (count + 1 + 1) (f .lines) numbered (atFirst count)
         ∙ ap (λ F. lineRules (numberOf (f .lines)) (count + 1) F (f .lines) (atFirst count)) e
         ∙ ap (λ v. lineRules (numberOf (f .lines)) (v + 1) (v + 2) (f .lines) (atFirst v)) count-is
 

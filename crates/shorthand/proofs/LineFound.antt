@@ -10,7 +10,7 @@ use Rattle.notation.specs.Scan.{before, scan}
 use Rattle.notation.specs.Emit.{choiceRules}
 use Rattle.notation.specs.Text.{Line}
 use Rattle.pieces.specs.Piece.{Refuses, choices, Finds, EndsChoice, Ready}
-use Rattle.pieces.specs.Store.{Few, numberIn}
+use Rattle.pieces.specs.Store.{Few, numberHeld}
 use Rattle.pieces.specs.declared.Piece.{Piece}
 use Rattle.pieces.proofs.Scanning.{before-end, line-ends, line-not-ended}
 use Rattle.shorthand.specs.Lines.{Defines, Names, LineReady, LineFinds}
@@ -39,11 +39,11 @@ module _ (numbers : List ℕ) (E : ℕ) (s : List ℕ) (from : Piece) (lines : L
       }
 
   -- Its choice is refused.
-  pub choice-refused : {x : ℕ} → ((u : Unit {0}) → Refuses s 0 (from .at + 2) (choices (numberIn numbers) E .before u) x)
+  pub choice-refused : {x : ℕ} → ((u : Unit {0}) → Refuses s 0 (from .at + 2) (choices (numberHeld numbers) E .before u) x)
       → (ls : List Line) → Defines ls lines → scan (drop (from .at) s) (before ls) ≡ refused x 0
   choice-refused f ls d = line-opens s (from .at) lines ls (r .inside) d o ∙ f tt ls (getD s (from .at) 0) [] refl
 
-  module _ {ws ws₁ : List ℕ} {p : Piece} (f : Finds (choices (numberIn numbers) E) s 0 (behindEquals E from) ws p ws₁) where
+  module _ {ws ws₁ : List ℕ} {p : Piece} (f : Finds (choices (numberHeld numbers) E) s 0 (behindEquals E from) ws p ws₁) where
     -- Its choice does not end with byte 10.
     pub end-refused : EndsChoice s p → (getD s (p .at) 0 ≡ 10 → ⊥) → (ls : List Line) → Defines ls lines → scan (drop (from .at) s) (before ls) ≡ refused 15 0
     end-refused e n ls d =
@@ -51,8 +51,8 @@ module _ (numbers : List ℕ) (E : ℕ) (s : List ℕ) (from : Piece) (lines : L
         ∙ line-not-ended s (p .at) (e .0) (e .1) n _ ls (getD s (from .at) 0)
 
     -- It does, and its letter has a rule.
-    pub line-is : {ws₂ : List ℕ} → getD s (p .at) 0 ≡ 10 → Names (numberIn numbers (getD s (from .at) 0)) E (p .variable) ws₁ ws₂
-        → LineFinds (numberIn numbers) E s from lines ws (behindLine p) (set lines (getD s (from .at) 0 - 65) 1) ws₂
+    pub line-is : {ws₂ : List ℕ} → getD s (p .at) 0 ≡ 10 → Names (numberHeld numbers (getD s (from .at) 0)) E (p .variable) ws₁ ws₂
+        → LineFinds (numberHeld numbers) E s from lines ws (behindLine p) (set lines (getD s (from .at) 0 - 65) 1) ws₂
     line-is e names =
         let l = before-end s (p .at) 10 (omega arith) e in
         let b = f .low in
@@ -68,5 +68,5 @@ module _ (numbers : List ℕ) (E : ℕ) (s : List ℕ) (from : Piece) (lines : L
           defines = λ ls d. defines-more ls lines (getD s (from .at) 0) (f .piece) (o .letter) d;
           few = record { variable-few = few .variable-few; last-few = few .last-few; cost-few = few .cost-few };
           cost-is = f .cost-is;
-          stores = λ z h. stored-line (numberIn numbers) E (getD s (from .at) 0) (choiceRules (numberIn numbers) E (E + 1) (f .piece) z) (p .variable) (p .last) ws₁ _ (f .stores z h) names;
+          stores = λ z h. stored-line (numberHeld numbers) E (getD s (from .at) 0) (choiceRules (numberHeld numbers) E (E + 1) (f .piece) z) (p .variable) (p .last) ws₁ _ (f .stores z h) names;
         }

@@ -2,7 +2,7 @@
 ghost use mathlib.Core.Path.{_≡_};
 ghost use Prim.Native.Nat.{_≤_};
 ghost use lib.ListN.{length};
-ghost use Rattle.pieces.specs.Store.{numberIn};
+ghost use Rattle.pieces.specs.Store.{numberHeld};
 ghost use Rattle.shorthand.specs.Lines.{opensLine, Names, LineReady, LineReads, LinesReady, LinesRead};
 ghost use Rattle.shorthand.specs.Promise.{EndReady, Ends, CompilePromise};
 use grammar::sheet::Rules;
@@ -59,7 +59,7 @@ fn read_line(
     rules: &mut Rules,
 ) -> Read
     requires { ⌜ LineReady (now s) (now numbers) always from ⌝ }
-    ensures { λ r. ⌜ LineReads (numberIn (now (numbers .entry))) always (now (s .entry)) from (now (lines .entry)) (now (rules .entry)) r (now (lines .exit)) (now (rules .exit)) ⌝ }
+    ensures { λ r. ⌜ LineReads (numberHeld (now (numbers .entry))) always (now (s .entry)) from (now (lines .entry)) (now (rules .entry)) r (now (lines .exit)) (now (rules .exit)) ⌝ }
 {
     let at = from.at;
     if !opens_line(s, at, lines) {
@@ -94,7 +94,7 @@ fn read_line(
 // All lines of a text.
 fn read_lines(s: &[u8], numbers: &[u32; 26], always: u32, from: Piece, rules: &mut Rules) -> Read
     requires { ⌜ LinesReady (now s) (now numbers) always from ⌝ }
-    ensures { λ r. ⌜ LinesRead (numberIn (now (numbers .entry))) always (now (s .entry)) from (now (rules .entry)) r (now (rules .exit)) ⌝ }
+    ensures { λ r. ⌜ LinesRead (numberHeld (now (numbers .entry))) always (now (s .entry)) from (now (rules .entry)) r (now (rules .exit)) ⌝ }
 {
     if s.len() == 0 {
         return Read::Fault(15);

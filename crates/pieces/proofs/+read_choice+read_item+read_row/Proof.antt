@@ -5,7 +5,7 @@ use Prim.Native.Nat.{_+_, _-_, _*_}
 use native.Mathlib.Omega.{arith}
 use lib.ListN.{length, getD}
 use borrow.Author.Needs.{needs}
-use Rattle.pieces.specs.Store.{numberIn, moved}
+use Rattle.pieces.specs.Store.{numberHeld, moved}
 use Rattle.pieces.specs.Piece.{closing, beginsItem, items, rows, choices, Refuses, Finds, EndsItem, EndsRow, EndsChoice, Ready}
 use Rattle.pieces.specs.declared.Piece.{Piece}
 use Rattle.notation.specs.Scan.{part}
@@ -110,7 +110,7 @@ row-calls t = (
 
 abbrev read-choice-Inv-loop : read-choice-lts.InvT-loop
 read-choice-Inv-loop s numbers always depth rules₀ here₀ rules here =
-    Onward (choices (numberIn numbers) always) s depth here₀ rules₀ here rules × EndsRow s here
+    Onward (choices (numberHeld numbers) always) s depth here₀ rules₀ here rules × EndsRow s here
 
 abbrev read-choice-μ-loop : read-choice-lts.MeasureT-loop
 read-choice-μ-loop s numbers always depth rules₀ here₀ rules here = length s - here .at
@@ -128,13 +128,13 @@ read-choice-returns : (t : ℕ) → read-choice-lts.Need-returns (choice-calls t
 read-choice-returns t c =
     let a = c .before .before .before .before .before .args in
     let r = c .before .before .read-row in
-    first-refused (numberIn (a .numbers .now)) (a .always) (a .s .now) (a .depth) (a .from) (a .rules .now) _ _ (r .result) (r .ensures) (c .enum-told .given .1)
+    first-refused (numberHeld (a .numbers .now)) (a .always) (a .s .now) (a .depth) (a .from) (a .rules .now) _ _ (r .result) (r .ensures) (c .enum-told .given .1)
 
 read-choice-loop-holds : (t : ℕ) → read-choice-lts.Need-loop-holds (choice-calls t) (read-choice-at t) read-choice.Post read-choice-Inv-loop read-choice-μ-loop
 read-choice-loop-holds t c =
     let a = c .before .before .before .before .before .before .args in
     let r = c .before .before .before .read-row in
-    (λ from before f. f, taken (rows (numberIn (a .numbers .now)) (a .always)) (a .s .now) (a .depth) (a .from) (a .rules .now) (EndsRow (a .s .now)) (r .result) _ (r .ensures) (c .before .first .given .1) .1)
+    (λ from before f. f, taken (rows (numberHeld (a .numbers .now)) (a .always)) (a .s .now) (a .depth) (a .from) (a .rules .now) (EndsRow (a .s .now)) (r .result) _ (r .ensures) (c .before .first .given .1) .1)
 
 read-choice-byte-at-requires : (t : ℕ) → read-choice-lts.Need-byte-at-requires (choice-calls t) (read-choice-at t) read-choice.Post read-choice-Inv-loop read-choice-μ-loop
 read-choice-byte-at-requires t c κs = search needs
@@ -142,10 +142,10 @@ read-choice-byte-at-requires t c κs = search needs
 -- The choice so far.
 choice-here : (t : ℕ) → (l : read-choice-lts.At-loop (choice-calls t) (read-choice-at t) read-choice.Post read-choice-Inv-loop read-choice-μ-loop)
     → let a = l .before .before .before .before .before .before .before .args in
-    Finds (choices (numberIn (a .numbers .now)) (a .always)) (a .s .now) (a .depth) (a .from) (a .rules .now) (l .loop .here) (l .loop .rules)
+    Finds (choices (numberHeld (a .numbers .now)) (a .always)) (a .s .now) (a .depth) (a .from) (a .rules .now) (l .loop .here) (l .loop .rules)
 choice-here t l =
     let a = l .before .before .before .before .before .before .before .args in
-    let n = numberIn (a .numbers .now) in
+    let n = numberHeld (a .numbers .now) in
     let r = l .before .before .before .before .read-row in
     let f = taken (rows n (a .always)) (a .s .now) (a .depth) (a .from) (a .rules .now) (EndsRow (a .s .now)) (r .result) _ (r .ensures) (l .before .before .first .given .1) in
     l .loop .inv .0 (a .from) (a .rules .now) (choice-begins n (a .always) (a .s .now) (a .depth) (a .from) _ (a .rules .now) _ (f .0))
@@ -187,8 +187,8 @@ read-choice-returns-2 t c u =
     let a = l .before .before .before .before .before .before .before .args in
     let r = c .before .before .before .read-row2 in
     let m = c .before .before .before .before .before .moved in
-    let k = rows (numberIn (a .numbers .now)) (a .always) in
-    choice-refused (numberIn (a .numbers .now)) (a .always) (a .s .now) (a .depth) (a .from) (a .rules .now) (l .loop .rules) (l .loop .here) _ (choice-here t l) (slash-here t (c .before .before .before .before .before .before .before))
+    let k = rows (numberHeld (a .numbers .now)) (a .always) in
+    choice-refused (numberHeld (a .numbers .now)) (a .always) (a .s .now) (a .depth) (a .from) (a .rules .now) (l .loop .rules) (l .loop .here) _ (choice-here t l) (slash-here t (c .before .before .before .before .before .before .before))
     (subst (λ (q : Piece). (o : Option Choice) → Refuses (a .s .now) (a .depth) (q .at) (part o empty) (c .before .number .given .0 .0)) (m .ensures)
     (faulted k (a .s .now) (a .depth) (m .result) (l .loop .rules) (EndsRow (a .s .now)) (r .result) _ (r .ensures) (c .before .number .given .1)))
 
@@ -199,13 +199,13 @@ read-choice-enum-known-other t c = search needs
 row-behind : (t : ℕ) → (o : read-choice-lts.After-other (choice-calls t) (read-choice-at t) read-choice.Post read-choice-Inv-loop read-choice-μ-loop)
     → let l = o .before .before .before .before .before .before .before .before in
     let a = l .before .before .before .before .before .before .before .args in
-    Finds (rows (numberIn (a .numbers .now)) (a .always)) (a .s .now) (a .depth) (moved (l .loop .here) (l .loop .here .at + 1) (l .loop .here .variable) 1) (l .loop .rules)
+    Finds (rows (numberHeld (a .numbers .now)) (a .always)) (a .s .now) (a .depth) (moved (l .loop .here) (l .loop .here .at + 1) (l .loop .here .variable) 1) (l .loop .rules)
     (o .other .given .0 .0) (o .before .before .read-row2 .last .1 .1 .1 .1 .1 .0)
     × EndsRow (a .s .now) (o .other .given .0 .0)
 row-behind t o =
     let l = o .before .before .before .before .before .before .before .before in
     let a = l .before .before .before .before .before .before .before .args in
-    let k = rows (numberIn (a .numbers .now)) (a .always) in
+    let k = rows (numberHeld (a .numbers .now)) (a .always) in
     let r = o .before .before .read-row2 in
     let m = o .before .before .before .before .moved in
     let f = taken k (a .s .now) (a .depth) (m .result) (l .loop .rules) (EndsRow (a .s .now)) (r .result) _ (r .ensures) (o .other .given .1) in
@@ -231,7 +231,7 @@ read-choice-loop-again t c =
     let a = l .before .before .before .before .before .before .before .args in
     let f = row-behind t (c .before .before .before) in
     let m = c .either .ensures in (
-      λ from before g. choice-grows (numberIn (a .numbers .now)) (a .always) (a .s .now) (a .depth) from (l .loop .here) _ _ before (l .loop .rules) _ _ (l .loop .inv .0 from before g)
+      λ from before g. choice-grows (numberHeld (a .numbers .now)) (a .always) (a .s .now) (a .depth) from (l .loop .here) _ _ before (l .loop .rules) _ _ (l .loop .inv .0 from before g)
           (slash-here t (c .before .before .before .before .before .before .before .before .before)) (f .0) m,
       subst (λ (q : ℕ). beginsItem (getD (a .s .now) q 0) ≡ false) (sym (m .ends-at)) (f .1),
     )
@@ -313,12 +313,12 @@ read-item-byte-at-requires-2 t c κs = search needs
 -- The choice inside it.
 choice-inside : (t : ℕ) → (o : read-item-lts.After-choice (item-calls t) (read-item-at t) read-item.Post)
     → let a = o .before .before .before .before .before .before .before .before .before .before .args in
-    Finds (choices (numberIn (a .numbers .now)) (a .always)) (a .s .now) (a .depth + 1) (moved (a .from) (a .from .at + 1) (a .from .variable) 3) (a .rules .now)
+    Finds (choices (numberHeld (a .numbers .now)) (a .always)) (a .s .now) (a .depth + 1) (moved (a .from) (a .from .at + 1) (a .from .variable) 3) (a .rules .now)
     (o .choice .given .0 .0) (o .before .before .read-choice .last .1 .1 .1 .1 .1 .0)
     × EndsChoice (a .s .now) (o .choice .given .0 .0)
 choice-inside t o =
     let a = o .before .before .before .before .before .before .before .before .before .before .args in
-    let k = choices (numberIn (a .numbers .now)) (a .always) in
+    let k = choices (numberHeld (a .numbers .now)) (a .always) in
     let r = o .before .before .read-choice in
     let m = o .before .before .before .before .moved in
     let f = taken k (a .s .now) (a .depth + 1) (m .result) (a .rules .now) (EndsChoice (a .s .now)) (r .result) _ (r .ensures) (o .choice .given .1) in
@@ -336,7 +336,7 @@ read-item-returns-3 t c =
     let a = o .before .before .before .before .before .before .before .before .before .before .args in
     let b = bracket-here t e in
     let f = choice-inside t o in
-    bracket-refused (numberIn (a .numbers .now)) (a .always) (a .s .now) (a .depth) (a .from) (a .rules .now) _ (b .bracket) (o .choice .given .0 .0) (b .opener-is) (c .before .before .before .before .before .before .before .before .if2 .left)
+    bracket-refused (numberHeld (a .numbers .now)) (a .always) (a .s .now) (a .depth) (a .from) (a .rules .now) _ (b .bracket) (o .choice .given .0 .0) (b .opener-is) (c .before .before .before .before .before .before .before .before .if2 .left)
     (f .0) (f .1) (λ z. c .if3 .taken (c .before .byte-at2 .ensures ∙ z ∙ sym (closer-here t e)))
 
 read-item-add-in-brackets : (t : ℕ) → read-item-lts.Need-add-in-brackets (item-calls t) (read-item-at t) read-item.Post
@@ -357,9 +357,9 @@ read-item-returns-4 t c =
     let r = c .before .before .before .read-choice in
     let m = c .before .before .before .before .before .moved in
     let b = bracket-here t (c .before .before .before .before .before .before .before) in
-    inside-refused (numberIn (a .numbers .now)) (a .always) (a .s .now) (a .depth) (a .from) (a .rules .now) (a .rules .now) (b .bracket) _ (b .opener-is) (c .before .before .before .before .before .before .if2 .left)
+    inside-refused (numberHeld (a .numbers .now)) (a .always) (a .s .now) (a .depth) (a .from) (a .rules .now) (a .rules .now) (b .bracket) _ (b .opener-is) (c .before .before .before .before .before .before .if2 .left)
     (subst (λ (q : Piece). Refuses (a .s .now) (a .depth + 1) (q .at) (part none empty) (c .before .number .given .0 .0)) (m .ensures)
-    (faulted (choices (numberIn (a .numbers .now)) (a .always)) (a .s .now) (a .depth + 1) (m .result) (a .rules .now) (EndsChoice (a .s .now)) (r .result) _ (r .ensures)
+    (faulted (choices (numberHeld (a .numbers .now)) (a .always)) (a .s .now) (a .depth + 1) (m .result) (a .rules .now) (EndsChoice (a .s .now)) (r .result) _ (r .ensures)
     (c .before .number .given .1) tt))
 
 read-item-returns-5 : (t : ℕ) → read-item-lts.Need-returns-5 (item-calls t) (read-item-at t) read-item.Post
@@ -368,14 +368,14 @@ read-item-returns-5 t c =
     let e = c .before .before .before .before .before .before .before .before .before .before .before in
     let st = o .before .before .before .before .before .before .before .before .before .before in
     let a = st .args in
-    let n = numberIn (a .numbers .now) in
+    let n = numberHeld (a .numbers .now) in
     let b = bracket-here t e in
     let k = closer-here t e in
     finds-bracket n (a .always) (a .s .now) (a .depth) (a .from) (st .pre .1 .0 .few) (b .bracket) (o .choice .given .0 .0) _ (a .rules .now) _ _ (b .opener-is) (c .before .before .before .before .before .before .before .before .before .before .if2 .left)
     (choice-inside t o .0) (sym (c .before .before .before .byte-at2 .ensures) ∙ c .before .before .if3 .left ∙ k) (c .in-brackets .ensures n (b .bracket) k)
 
 abbrev read-row-Inv-loop : read-row-lts.InvT-loop
-read-row-Inv-loop s numbers always depth rules₀ here₀ rules here = Onward (rows (numberIn numbers) always) s depth here₀ rules₀ here rules
+read-row-Inv-loop s numbers always depth rules₀ here₀ rules here = Onward (rows (numberHeld numbers) always) s depth here₀ rules₀ here rules
 
 abbrev read-row-μ-loop : read-row-lts.MeasureT-loop
 read-row-μ-loop s numbers always depth rules₀ here₀ rules here = length s - here .at
@@ -386,12 +386,12 @@ read-row-loop-holds t c from before f = f
 -- The row so far.
 row-here : (t : ℕ) → (l : read-row-lts.At-loop (row-calls t) (read-row-at t) read-row.Post read-row-Inv-loop read-row-μ-loop)
     → let a = l .before .before .args in
-    Finds (rows (numberIn (a .numbers .now)) (a .always)) (a .s .now) (a .depth) (a .from) (a .rules .now) (l .loop .here) (l .loop .rules)
+    Finds (rows (numberHeld (a .numbers .now)) (a .always)) (a .s .now) (a .depth) (a .from) (a .rules .now) (l .loop .here) (l .loop .rules)
 row-here t l =
     let st = l .before .before in
     let a = st .args in
     let r = st .pre .1 in
-    l .loop .inv (a .from) (a .rules .now) (row-begins (numberIn (a .numbers .now)) (a .always) (a .s .now) (a .depth) (a .from) (a .rules .now) (r .inside) (r .few) (r .always-few))
+    l .loop .inv (a .from) (a .rules .now) (row-begins (numberHeld (a .numbers .now)) (a .always) (a .s .now) (a .depth) (a .from) (a .rules .now) (r .inside) (r .few) (r .always-few))
 
 read-row-byte-at-requires : (t : ℕ) → read-row-lts.Need-byte-at-requires (row-calls t) (read-row-at t) read-row.Post read-row-Inv-loop read-row-μ-loop
 read-row-byte-at-requires t c κs = search needs
@@ -420,7 +420,7 @@ read-row-returns t c =
     let l = c .before .before .before .before .before .before .before .before in
     let a = l .before .before .args in
     let r = c .before .before .before .read-item in
-    let n = numberIn (a .numbers .now) in
+    let n = numberHeld (a .numbers .now) in
     row-refused n (a .always) (a .s .now) (a .depth) (a .from) (a .rules .now) (l .loop .rules) (l .loop .here) _ (row-here t l)
     (faulted (items n (a .always)) (a .s .now) (a .depth) (l .loop .here) (l .loop .rules) (EndsItem (l .loop .here)) (r .result) _ (r .ensures) (c .before .number .given .1))
 
@@ -431,14 +431,14 @@ read-row-enum-known-item t c = search needs
 item-behind : (t : ℕ) → (o : read-row-lts.After-item (row-calls t) (read-row-at t) read-row.Post read-row-Inv-loop read-row-μ-loop)
     → let l = o .before .before .before .before .before .before .before in
     let a = l .before .before .args in
-    Finds (items (numberIn (a .numbers .now)) (a .always)) (a .s .now) (a .depth) (l .loop .here) (l .loop .rules) (o .item .given .0 .0)
+    Finds (items (numberHeld (a .numbers .now)) (a .always)) (a .s .now) (a .depth) (l .loop .here) (l .loop .rules) (o .item .given .0 .0)
     (o .before .before .read-item .last .1 .1 .1 .1 .1 .0)
     × EndsItem (l .loop .here) (o .item .given .0 .0)
 item-behind t o =
     let l = o .before .before .before .before .before .before .before in
     let a = l .before .before .args in
     let r = o .before .before .read-item in
-    taken (items (numberIn (a .numbers .now)) (a .always)) (a .s .now) (a .depth) (l .loop .here) (l .loop .rules) (EndsItem (l .loop .here)) (r .result) _ (r .ensures)
+    taken (items (numberHeld (a .numbers .now)) (a .always)) (a .s .now) (a .depth) (l .loop .here) (l .loop .rules) (EndsItem (l .loop .here)) (r .result) _ (r .ensures)
     (o .item .given .1)
 
 read-row-join-requires : (t : ℕ) → read-row-lts.Need-join-requires (row-calls t) (read-row-at t) read-row.Post read-row-Inv-loop read-row-μ-loop
@@ -453,14 +453,14 @@ read-row-loop-less t c =
     let f = item-behind t (c .before .before .before) in
     let h = f .0 .high in
     let d = f .1 in
-    let e = c .join .ensures (numberIn (a .numbers .now)) .ends-at in
+    let e = c .join .ensures (numberHeld (a .numbers .now)) .ends-at in
     omega arith
 
 read-row-loop-again : (t : ℕ) → read-row-lts.Need-loop-again (row-calls t) (read-row-at t) read-row.Post read-row-Inv-loop read-row-μ-loop
 read-row-loop-again t c from before g =
     let l = c .before .before .before .before .before .before .before .before .before .before in
     let a = l .before .before .args in
-    let n = numberIn (a .numbers .now) in
+    let n = numberHeld (a .numbers .now) in
     row-grows n (a .always) (a .s .now) (a .depth) from (l .loop .here) _ _ before (l .loop .rules) _ _ (l .loop .inv from before g) (item-behind t (c .before .before .before) .0) (c .join .ensures n)
 
 read-row-returns-2 : (t : ℕ) → read-row-lts.Need-returns-2 (row-calls t) (read-row-at t) read-row.Post read-row-Inv-loop read-row-μ-loop

@@ -3,7 +3,7 @@ use mathlib.Core.Path.{_≡_, sym, ap, _∙_, subst}
 use Prim.Native.Nat.{ℕ, _+_, _-_, _≤_}
 use native.Mathlib.Omega.{arith}
 use lib.ListN.{getD}
-use Rattle.pieces.specs.Store.{numberIn, moved}
+use Rattle.pieces.specs.Store.{numberHeld, moved}
 use Rattle.notation.specs.Text.{capital}
 use Rattle.pieces.specs.declared.Piece.{Piece}
 use Rattle.pieces.proofs.Bytes.{a-capital}
@@ -38,8 +38,8 @@ returns-2 c depth =
     let e = c .before .before .before in
     let st = e .before .before in
     let a = st .args in
-    subst (λ (p : Piece). Item-found (numberIn (a .numbers .now)) (a .always) (a .s .now) depth (a .from) (a .rules .now) p (a .rules .now)) (sym (c .moved .ensures))
-    (finds-percent (numberIn (a .numbers .now)) (a .always) (a .s .now) depth (a .from) (st .pre .few) (a .rules .now) (st .pre .always-few) (sym (e .byte-at .ensures) ∙ c .before .if2 .taken))
+    subst (λ (p : Piece). Item-found (numberHeld (a .numbers .now)) (a .always) (a .s .now) depth (a .from) (a .rules .now) p (a .rules .now)) (sym (c .moved .ensures))
+    (finds-percent (numberHeld (a .numbers .now)) (a .always) (a .s .now) depth (a .from) (st .pre .few) (a .rules .now) (st .pre .always-few) (sym (e .byte-at .ensures) ∙ c .before .if2 .taken))
 
 -- With neither a quote nor a percent sign, it is a capital.
 letter-here : (c : tie.Else2) → let b = getD (c .before .before .before .before .args .s .now) (c .before .before .before .before .args .from .at) 0 in
@@ -77,7 +77,7 @@ returns-3 c depth =
     let e = k .before .before in
     let st = e .before .before in
     let a = st .args in
-    let number = numberIn (a .numbers .now) in
+    let number = numberHeld (a .numbers .now) in
     let b = getD (a .s .now) (a .from .at) 0 in
     let h = letter-here k in
     let few = st .pre .numbers-few (b - 65) in

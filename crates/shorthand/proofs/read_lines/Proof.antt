@@ -3,13 +3,13 @@ use Prim.Native.Nat.{_-_}
 use native.Mathlib.Omega.{arith}
 use lib.ListN.{length}
 use borrow.Author.Needs.{needs}
-use Rattle.pieces.specs.Store.{numberIn}
+use Rattle.pieces.specs.Store.{numberHeld}
 use Rattle.shorthand.proofs.Going.{Going, begins, line-ready, goes-on, faults, ends, empty-text, line-found, line-faulted}
 use Rattle.shorthand.proofs.read_lines.Statement.{statement}
 use Rattle.shorthand.proofs.read_lines.Tie as tie
 
 abbrev Inv-loop : tie.InvT-loop
-Inv-loop s numbers always rules₀ lines₀ here₀ rules lines here = Going (numberIn numbers) always s here₀ rules₀ here lines rules
+Inv-loop s numbers always rules₀ lines₀ here₀ rules lines here = Going (numberHeld numbers) always s here₀ rules₀ here lines rules
 
 abbrev μ-loop : tie.MeasureT-loop
 μ-loop s numbers always rules₀ lines₀ here₀ rules lines here = length s - here .at
