@@ -23,7 +23,7 @@ mutual
     empty : Row
     next : Row → Item → Row
 
-  -- "alternatives parted by `/`. These make up a choice; each is a row"
+  -- "alternatives parted by `/` .. make up a choice; each is a row of items"
   pub data Choice : Type 0 where
     only : Row → Choice
     or : Choice → Row → Choice
@@ -34,6 +34,7 @@ pub data Line : Type 0 where
 
 -- ---- How a text is written.
 
+-- The byte that opens a bracket, and the one that closes it.
 abbrev pub opener : Bracket → ℕ
 opener round = 40
 opener square = 91
@@ -42,6 +43,7 @@ abbrev pub closer : Bracket → ℕ
 closer round = 41
 closer square = 93
 
+-- The bytes of an item, a row and a choice.
 unfoldable mutual
   pub itemText : Item → List ℕ
   itemText (letter A) = A ∷ []
@@ -57,6 +59,7 @@ unfoldable mutual
   choiceText (only r) = rowText r
   choiceText (or c r) = choiceText c ++ 47 ∷ rowText r
 
+-- The bytes of lines.
 unfoldable pub linesText : List Line → List ℕ
 linesText [] = []
 linesText (line A c ∷ ls) = A ∷ 61 ∷ choiceText c ++ 10 ∷ linesText ls
@@ -79,10 +82,12 @@ unfoldable mutual
   choiceLetters (only r) = rowLetters r
   choiceLetters (or c r) = choiceLetters c ++ rowLetters r
 
+-- Those of all lines.
 unfoldable pub lettersOf : List Line → List ℕ
 lettersOf [] = []
 lettersOf (line A c ∷ ls) = A ∷ choiceLetters c ++ lettersOf ls
 
+-- Is A in the list?
 abbrev pub among : ℕ → List ℕ → Bool
 among A [] = Bool.false
 among A (B ∷ Bs) = eqb A B || among A Bs
@@ -92,6 +97,7 @@ unfoldable pub firsts : List ℕ → List ℕ → List ℕ
 firsts seen [] = []
 firsts seen (A ∷ As) = cond (among A seen) (firsts seen As) (A ∷ firsts (A ∷ seen) As)
 
+-- The letters of the lines by first appearance, each once.
 unfoldable pub letters : List Line → List ℕ
 letters ls = firsts [] (lettersOf ls)
 
@@ -106,6 +112,7 @@ numberOf ls A = rank (letters ls) A
 
 -- ---- "the distinct letters plus 2, 3 for each item at any depth, 1 for each `/`"
 
+-- What an item, a row and a choice add.
 unfoldable mutual
   pub itemCost : Item → ℕ
   itemCost (letter A) = 3
@@ -121,15 +128,18 @@ unfoldable mutual
   choiceCost (only r) = rowCost r
   choiceCost (or c r) = choiceCost c + 1 + rowCost r
 
+-- What all lines add.
 unfoldable pub cost : List Line → ℕ
 cost [] = 0
 cost (line A c ∷ ls) = choiceCost c + cost ls
 
+-- The allowance: how many variables a sheet of the lines may have.
 abbrev pub allowance : List Line → ℕ
 allowance ls = length (letters ls) + 2 + cost ls
 
 -- ---- "Brackets nest to 16."
 
+-- How deep brackets nest in an item, a row and a choice.
 unfoldable mutual
   pub itemDepth : Item → ℕ
   itemDepth (letter A) = 0
