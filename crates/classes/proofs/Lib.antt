@@ -1,2 +1,2 @@
 -- Laws of the classes of bytes.
-pub mod ClassRuns
+pub mod ClassTable
