@@ -14,7 +14,8 @@ use Rattle.schema.specs.Reached.{Named, Number}
 use Rattle.schema.proofs.System.{gts, outcomeOf, answerOf, to-done, means-has}
 use Rattle.schema.proofs.Waiting.{to-follow}
 
-outcome-answer : (o : Outcome) → outcomeOf (answerOf o) ≡ o
+-- The answer of an outcome stands for that outcome.
+pub outcome-answer : (o : Outcome) → outcomeOf (answerOf o) ≡ o
 outcome-answer (result r) = refl
 outcome-answer (stopped w) = refl
 outcome-answer loop = refl

@@ -5,6 +5,7 @@ pub mod Codes
 pub mod System
 pub mod Waiting
 pub mod Laws
+pub mod TwoInputs
 pub mod Cell
 pub mod Ends
 pub mod Closed

@@ -1,0 +1,3 @@
+-- Text added at the end of an input: why it comes again.
+pub mod Appended
+pub mod Answered

@@ -1,0 +1,1 @@
+// Text added at the end of an input: definitions and laws.
