@@ -12,11 +12,13 @@ use std::io::Write;
 /// The code of the asked cell, the named variable and the named position: what must come again. The count of cells need not.
 type Said = [u32; 3];
 
-/// The code of an end, and, for all of them, that of a success ending at 0.
+/// The code of end.
 const END: u32 = 4;
+
+/// The code of a success ending at 0; no other outcome has a code as great.
 const SUCCESS: u32 = 5;
 
-/// What is asked: a pair of the shorter entry.
+/// A sheet of so many variables, an entry, and the entry with bytes appended.
 struct Case {
     sheet: Vec<u8>,
     entry: Vec<u8>,
@@ -82,7 +84,8 @@ impl Case {
     }
 }
 
-/// How often each outcome was met on the shorter entry, by its code, a success at 5; how often end became another; how often the machine named one.
+/// How often each outcome was met on the shorter entry, by its code, every success as 5; how often end became another; how often the machine named
+/// each.
 #[derive(Debug, Default)]
 struct Met {
     outcomes: [u64; 6],
@@ -141,16 +144,16 @@ impl std::fmt::Display for Case {
 fn every_pair() {
     let mut random = Random(12);
     let mut met = Met::default();
-    for _ in 0..2_000 {
+    for _ in 0..5_000 {
         let variables = 1 + random.below(14);
         let (length, added) = (random.index(9), 1 + random.index(6));
         let case = Case::random(&mut random, variables, length, added);
         met.pairs(&mut random, &case);
     }
-    met.assert_met(500);
+    met.assert_met(10_000);
 }
 
-/// Entries of up to 4,096 bytes with what is appended, and sheets of up to 256 variables: some pairs of each.
+/// Entries of up to 4,096 bytes with what is appended, and sheets of up to 256 variables: some pairs of each, half of them near the end.
 #[test]
 #[ignore = "a command of its own: see README.md"]
 fn longer_entries() {
@@ -165,51 +168,47 @@ fn longer_entries() {
         let added = 1 + random.index(4096 - length);
         let case = Case::random(&mut random, variables, length, added);
         for _ in 0..10 {
+            let from_end = match random.below(2) {
+                0 => random.index(length + 1),
+                _ => random.index(length.min(8) + 1),
+            };
             let asked = Pair {
                 variable: 1 + random.below(variables) as u32,
-                position: random.index(length + 1) as u32,
+                position: (length - from_end) as u32,
             };
             met.pair(&mut random, &case, asked);
         }
     }
     // Not `println!`, which a passing test would keep to itself.
     writeln!(std::io::stdout().lock(), "\n{met:?}").expect("it is printed");
-    met.assert_met(1_000);
+    met.assert_met(5_000);
 }
 
-/// A sign, or none; then a digit and a full stop.
-const H: &[u8] = b"    6    1   46    0    0
-    1    4    2    3    3
-    2    2   45    0    0
-    3    4    4    5    6
-    4    3    1    0    0
-    5    2   46    0    0
-    6    1    0    0    0
-";
-
-/// A run of one byte.
-const RUN: &[u8] = b"    3    1   46    0    0
-    1    4    2    1    3
-    2    2   97    0    0
-    3    0    0    0    0
-";
+/// A run of one byte, whatever comes behind it.
+fn run_of_a(entry: &[u8], added: &[u8]) -> Case {
+    let lines = [
+        [3, 1, 46, 0, 0],
+        [1, 4, 2, 1, 3],
+        [2, 2, 97, 0, 0],
+        [3, 0, 0, 0, 0],
+    ];
+    Case::new(lines.map(questions::row).concat().as_bytes(), entry, added)
+}
 
 const FIRST: Pair = Pair {
     variable: 1,
     position: 0,
 };
 
-/// "End is excepted": what follows decides.
+/// "End is excepted": what follows decides, and may come to the end again.
 #[test]
 fn end_is_excepted() {
     let mut random = Random(14);
-    for (added, code) in [(&b"."[..], 5 + 3), (b"x", 1)] {
-        let case = Case::new(H, b"-6", added);
-        assert_eq!(case.question(&mut random, b"-6", FIRST), Ok([END, 5, 2]));
-        assert_eq!(
-            case.question(&mut random, &case.longer, FIRST),
-            Ok([code, 0, 0])
-        );
+    for (added, said) in [(b".", [SUCCESS + 2, 0, 0]), (b"a", [END, 2, 3])] {
+        let case = run_of_a(b"aa", added);
+        let mut question = |entry: &[u8]| case.question(&mut random, entry, FIRST);
+        assert_eq!(question(b"aa"), Ok([END, 2, 2]));
+        assert_eq!(question(&case.longer), Ok(said));
     }
 }
 
@@ -218,12 +217,11 @@ fn end_is_excepted() {
 fn within_the_limit() {
     let mut random = Random(15);
     let entry = [&[b'a'; 4_000][..], b"."].concat();
-    for (added, said) in [(95, Ok([5 + 4_000, 0, 0])), (96, Err(6))] {
-        let case = Case::new(RUN, &entry, &vec![b'a'; added]);
-        assert_eq!(
-            case.question(&mut random, &entry, FIRST),
-            Ok([5 + 4_000, 0, 0])
-        );
-        assert_eq!(case.question(&mut random, &case.longer, FIRST), said);
+    let before = Ok([SUCCESS + 4_000, 0, 0]);
+    for (added, said) in [(95, before), (96, Err(6))] {
+        let case = run_of_a(&entry, &vec![b'a'; added]);
+        let mut question = |entry: &[u8]| case.question(&mut random, entry, FIRST);
+        assert_eq!(question(&entry), before);
+        assert_eq!(question(&case.longer), said);
     }
 }

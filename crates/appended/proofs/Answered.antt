@@ -48,17 +48,17 @@ replied s input A p table table′ work work′ r promise a e = by-sheet (handed
         record { grammar = g; accepts = f; answers = subst (Answers (g .rule) (g .variables) input (A at p) table table′ work work′) same (m .2) }
 
 -- The sheet is accepted, and the pair has the outcome.
-record Read (s input : List ℕ) (x : Pair) (o : Outcome) : Type 0 where
+record Given (s input : List ℕ) (x : Pair) (o : Outcome) : Type 0 where
   grammar : Grammar
   reads : sheet s ≡ accepted grammar
   has : Has (grammar .rule) input x o
 
 -- So it is where a run names an outcome.
-run-read : (s input : List ℕ) (x : Pair) (frames frames′ : List ℕ) (budget : ℕ) (r : Ending) → run.Runs s input x frames frames′ budget r
-    → (o : Outcome) (moves : ℕ) → run.told r ≡ accepted (ran (says o) moves) → Read s input x o
-run-read s input x frames frames′ budget r runs o moves e = by-sheet (handed s (asked input x)) refl runs
+run-given : (s input : List ℕ) (x : Pair) (frames frames′ : List ℕ) (budget : ℕ) (r : Ending) → run.Runs s input x frames frames′ budget r
+    → (o : Outcome) (moves : ℕ) → run.told r ≡ accepted (ran (says o) moves) → Given s input x o
+run-given s input x frames frames′ budget r runs o moves e = by-sheet (handed s (asked input x)) refl runs
   where
-    by-sheet : (c : Checked Grammar) → handed s (asked input x) ≡ c → run.Comes c input x frames frames′ budget r → Read s input x o
+    by-sheet : (c : Checked Grammar) → handed s (asked input x) ≡ c → run.Comes c input x frames frames′ budget r → Given s input x o
     by-sheet (refused y l) f m = let q = m .0 in absurd (true≢false (cc))
     by-sheet (accepted g) f m = record {
       grammar = g;
@@ -84,7 +84,7 @@ module _ (s input added : List ℕ) (A p : ℕ) where
     room = handed-slices s call g (longer .accepts) (length table) (length work) refl .0
 
     -- An outcome that is not end, on the shorter input,
-    module _ {o : Outcome} (lasting : Lasting o) (shorter : Read s input (A at p) o) where
+    module _ {o : Outcome} (lasting : Lasting o) (shorter : Given s input (A at p) o) where
       same : shorter .grammar ≡ g
       same = let e = handed-sheet s call g (longer .accepts) in let f = shorter .reads in cc
 
@@ -111,7 +111,7 @@ module _ (s input added : List ℕ) (A p : ℕ) where
       let e = one .answers .says in
       let l = subst (λ (c : Reply). Lasting (outcomeOf c)) e lasting in
       let reads = handed-sheet s (questionOf input (A at p) (length table) (length work)) (one .grammar) (one .accepts) in
-      let shorter : Read s input (A at p) (one .answers .outcome) = record { grammar = one .grammar; reads = reads; has = one .answers .has } in
+      let shorter : Given s input (A at p) (one .answers .outcome) = record { grammar = one .grammar; reads = reads; has = one .answers .has } in
       subst (λ (c : Reply). Repeats c b) (sym e) (countOf b, reply-again longer l shorter (one .answers .named) (one .answers .names))
 
   -- The law of order 3 over results.
@@ -130,5 +130,5 @@ module _ (s input added : List ℕ) (A p : ℕ) where
     question-repeats = λ table table′ work work′ r one table₂ table₂′ work₂ work₂′ r₂ two a b e f l.
         question-repeats (replied s input A p table table′ work work′ r one a e) (replied s (input ++ added) A p table₂ table₂′ work₂ work₂′ r₂ two b f) l;
     run-repeats = λ frames frames′ budget r runs table table′ work work′ r₂ two o moves b e f l.
-        outcome-again (replied s (input ++ added) A p table table′ work work′ r₂ two b f) l (run-read s input (A at p) frames frames′ budget r runs o moves e);
+        outcome-again (replied s (input ++ added) A p table table′ work work′ r₂ two b f) l (run-given s input (A at p) frames frames′ budget r runs o moves e);
   }

@@ -49,7 +49,7 @@ module _ (rule : ℕ → Rule) (input added : List ℕ) where
   covered-act : (x : Pair) → Covered x → act rule (input ++ added) x ≡ act rule input x
   covered-act (A at p) n = rule-same input added (rule A) p (λ e. n (here e))
 
-  -- and so what they call is covered.
+  -- and what they call is covered: the end of a called pair is its caller's.
   covered-called : (x y : Pair) → Covered x → Calls (gts rule input) x y → Covered y
   covered-called x y n c i = n (from-halt rule input (halt-up (gts rule input) c (to-halt rule input i)))
 

@@ -6,7 +6,7 @@ use Rattle.grammar.specs.Rule.{Rule}
 use Rattle.schema.specs.Derivation.{Pair, end, Outcome, stopped, Has}
 use Rattle.schema.specs.Reached.{Named}
 
--- "End is excepted."
+-- Every outcome but one: "End is excepted."
 abbrev pub Lasting : Outcome → Type 0
 Lasting o = o ≢ stopped end
 
