@@ -29,7 +29,7 @@ use Rattle.walk.proofs.Decided.{decided-none, decided-blank, decided-more}
 use Rattle.memo.proofs.TableOne.{table-one}
 
 -- The count of decided cells counts the cells that are not blank.
-decided-count : (T : List ℕ) (m : ℕ) → m ≤ length T → Count (λ i. heldAt T i ≢ 0) m (decided (take m T))
+pub decided-count : (T : List ℕ) (m : ℕ) → m ≤ length T → Count (λ i. heldAt T i ≢ 0) m (decided (take m T))
 decided-count T zero l = subst (Count (λ i. heldAt T i ≢ 0) 0) (sym (decided-none T)) none
 decided-count T (suc m) l =
     let before = decided-count T m (omega arith) in

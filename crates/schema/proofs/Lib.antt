@@ -1,5 +1,6 @@
 -- What the definitions of the schema give.
 pub mod AfterFirst
+pub mod Parts
 pub mod Cells
 pub mod Codes
 pub mod System

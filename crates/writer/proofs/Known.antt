@@ -1,21 +1,20 @@
 -- The pairs with a result that the question reaches: what such a pair calls is derived in fewer steps, so that no pair comes again among its
 -- callers. Assumes nothing.
-use mathlib.Core.Bool.{true≢false}
 use mathlib.Core.Path.{_≡_, refl, subst}
 use mathlib.Core.List.{List}
-use Prim.Native.Nat.{ℕ, _+_, _<_}
+use Prim.Native.Nat.{ℕ, _<_}
 use native.Mathlib.Omega.{arith}
 use lib.ListN.{length}
 use Rattle.grammar.specs.Rule.{Rule}
-use Rattle.schema.specs.Derivation.{Pair, _at_, Result, calls, act, second, Derives, leaf, node}
+use Rattle.schema.specs.Derivation.{Pair, _at_, Result, calls, act, second, Derives}
 use Rattle.schema.specs.Reached.{Reached, first-of, second-of}
 use Rattle.schema.specs.Table.{held}
 use Rattle.schema.proofs.Laws.{derives-one}
+use Rattle.schema.proofs.Parts.{parts}
 use Rattle.step.specs.Codes.{Settled}
 use Rattle.walk.proofs.Marks.{settled-one}
 use Rattle.lines.specs.Turning.{Lower, to-first, to-second}
 use Rattle.writer.specs.Writing.{Finished}
-use Rattle.writer.proofs.Visiting.{calls-one}
 
 -- A pair that x reaches, with a result in k steps.
 pub record Known (rule : ℕ → Rule) (s : List ℕ) (x y : Pair) (k : ℕ) : Type 0 where
@@ -24,33 +23,7 @@ pub record Known (rule : ℕ → Rule) (s : List ℕ) (x y : Pair) (k : ℕ) : T
   pub height : ℕ
   pub derives : Derives rule s y found k height
 
--- The two derivations that one of a calling pair is made of.
-pub record Parts (rule : ℕ → Rule) (s : List ℕ) (B C D p : ℕ) (r : Result) (k : ℕ) : Type 0 where
-  pub between : Result
-  pub steps : ℕ
-  pub more : ℕ
-  pub height : ℕ
-  pub higher : ℕ
-  pub first : Derives rule s (B at p) between steps height
-  pub rest : Derives rule s (second C D p between) r more higher
-  pub fewer : steps + more < k
-
 module _ {rule : ℕ → Rule} {s : List ℕ} where
-  pub parts : {A B C D p k h : ℕ} {r : Result} → Derives rule s (A at p) r k h → act rule s (A at p) ≡ calls B C D → Parts rule s B C D p r k
-  parts (leaf f) e = absurd (true≢false (cc))
-  parts {A} {B} {C} {D} {p} {r = r} (node {B = E} {C = F} {D = G} {k = k} {l = l} {g = g} {h = h} {t = t} f d c) e =
-      let q = calls-one f e in
-      record {
-        between = t;
-        steps = k;
-        more = l;
-        height = g;
-        higher = h;
-        first = subst (λ (X : ℕ). Derives rule s (X at p) t k g) (q .0) d;
-        rest = subst (λ (X : ℕ). Derives rule s (second C X p t) r l h) (q .2) (subst (λ (X : ℕ). Derives rule s (second X G p t) r l h) (q .1) c);
-        fewer = omega arith;
-      }
-
   module _ {x : Pair} where
     -- Two such pairs with different counts of steps differ.
     pub apart : {y z : Pair} {i k : ℕ} → Known rule s x y i → Known rule s x z k → i < k → y ≡ z → ⊥

@@ -1,0 +1,92 @@
+-- The correction, from its admission on. Assumes nothing.
+use mathlib.Core.Bool.{Bool, true, false, _||_}
+use mathlib.Core.List.{List}
+use mathlib.Core.Path.{_≡_, refl, sym, ap, _∙_, subst}
+use Prim.Native.Nat.{ℕ, _≤_, _<_}
+use lib.Dec.{ltb}
+use lib.ListN.{length}
+use borrow.Author.Tests.{lt-ltb, le-ltb}
+use Rattle.grammar.specs.Refusal.{Checked, refused, accepted}
+use Rattle.grammar.specs.Rule.{Rule}
+use Rattle.grammar.specs.Words.{ruleIn}
+use Rattle.grammar.specs.declared.sheet.Grammar.{Grammar as Line}
+use Rattle.grammar.specs.declared.sheet.Sheet.{Sheet}
+use Rattle.grammar.specs.declared.sheet.Sheet.the-variants.{Read, Refused}
+use Rattle.rules.specs.Admission.{Admission}
+use Rattle.rules.proofs.Admitted.{Admitted, not-admitted}
+use Rattle.schema.specs.Derivation.{_at_}
+use Rattle.schema.specs.Handed.{handed, questionOf}
+use Rattle.schema.specs.Table.{cells}
+use Rattle.schema.proofs.Tested.{question-follows}
+use Rattle.finish.specs.Reply.{Reply}
+use Rattle.memo.proofs.Questioned.{read, follows, tested-is, ask-ready}
+use Rattle.kept.specs.Range.{retainedOut}
+use Rattle.passes.specs.Passes.{PassReady}
+use Rattle.correction.specs.Correction.{Correction, Replies}
+use Rattle.correction.specs.Ready.{CorrectionReady}
+use Rattle.correction.specs.Refusals.{correctable}
+use Rattle.correction.proofs.CorrectionRefusals.{refused-before, then-tested}
+
+module _ {s input : List ℕ} {A p : ℕ} {before after : List ℕ} {r : Sheet} (admission : Admission s input A p before after r) (c : ℕ) (table work : List ℕ) where
+  -- A refusal, with both slices as they were.
+  refused-as : {table′ work′ : List ℕ} {x l : ℕ} {t : Checked Reply} → correctable s input (A at p) c table (length work) ≡ refused x l → t ≡ refused x l
+      → table′ ≡ table → work′ ≡ work → Replies (correctable s input (A at p) c table (length work)) input (A at p) c table table′ work work′ t
+  refused-as e t k m = rw e (t, k, m)
+
+  -- Refused before the slices are looked at,
+  pub refused-first : {table′ work′ : List ℕ} {x l : ℕ} {t : Checked Reply} → r ≡ Refused x l → t ≡ refused x l → table′ ≡ table → work′ ≡ work
+      → Replies (correctable s input (A at p) c table (length work)) input (A at p) c table table′ work work′ t
+  refused-first {x = x} {l = l} e t k m =
+      let h = not-admitted s input A p before after r admission x l e in
+      refused-as (refused-before s input (A at p) c table (length work) x l (question-follows s input A p (length table) (length work) (refused x l) h)) t k m
+
+  module _ {l : Line} (e : r ≡ Read l) {small : Bool}
+      (tested : small ≡ (ltb (length table) (cells (l .variables) (length input)) || ltb (length work) (cells (l .variables) (length input)))) where
+    abbrev admitted : Admitted s input A p after l
+    admitted = read admission table work e
+
+    -- for a slice that is too small,
+    pub refused-small : {table′ work′ : List ℕ} {t : Checked Reply} → small ≡ true → t ≡ refused 10 0 → table′ ≡ table → work′ ≡ work
+        → Replies (correctable s input (A at p) c table (length work)) input (A at p) c table table′ work work′ t
+    refused-small h t k m =
+        refused-as (refused-before s input (A at p) c table (length work) 10 0 (follows admission table work e ∙ rw (tested-is admission table work e tested, h))) t k m
+
+    module _ (enough : small ≡ false) where
+      accepts : handed s (questionOf input (A at p) (length table) (length work)) ≡ accepted (admitted .grammar)
+      accepts = follows admission table work e ∙ rw (tested-is admission table work e tested, enough)
+
+      -- for a position that no byte has,
+      pub refused-position : {table′ work′ : List ℕ} {t : Checked Reply} → length input ≤ c → t ≡ refused 18 0 → table′ ≡ table → work′ ≡ work
+          → Replies (correctable s input (A at p) c table (length work)) input (A at p) c table table′ work work′ t
+      refused-position h t k m = refused-as (then-tested s input (A at p) c table (length work) (admitted .grammar) accepts ∙ rw (le-ltb c (length input) h)) t k m
+
+      module _ (below : c < length input) where
+        by-range : {out : Bool} → out ≡ retainedOut (l .variables) (length input) c table → retainedOut (admitted .grammar .variables) (length input) c table ≡ out
+        by-range h = ap (λ (v : ℕ). retainedOut v (length input) c table) (admitted .variables-are) ∙ sym h
+
+        -- What the passes are handed.
+        pub may-pass : PassReady (l .variables) (length input) c table
+        may-pass =
+            let a = ask-ready admission table work e tested enough in
+            record { few = a .few; short = a .short; below = below; room = a .room }
+
+        -- for a retained cell out of range.
+        pub refused-range : {out : Bool} {table′ work′ : List ℕ} {t : Checked Reply} → out ≡ retainedOut (l .variables) (length input) c table → out ≡ true
+            → t ≡ refused 19 0 → table′ ≡ table → work′ ≡ work
+            → Replies (correctable s input (A at p) c table (length work)) input (A at p) c table table′ work work′ t
+        refused-range out is t k m =
+            refused-as (then-tested s input (A at p) c table (length work) (admitted .grammar) accepts ∙ rw (lt-ltb c (length input) below, by-range out, is)) t k m
+
+        -- What is then asked is handed,
+        pub ready : {out : Bool} → out ≡ retainedOut (l .variables) (length input) c table → out ≡ false
+            → CorrectionReady (ruleIn after) input (l .variables) A p c table work
+        ready out is = record { ask = ask-ready admission table work e tested enough; below = below; in-range = sym out ∙ is }
+
+        -- and the answer is the correction's.
+        pub replies : {out : Bool} {table′ work′ : List ℕ} {t : Checked Reply} → out ≡ retainedOut (l .variables) (length input) c table → out ≡ false
+            → Correction (ruleIn after) (l .variables) input (A at p) c table table′ work work′ t
+            → Replies (correctable s input (A at p) c table (length work)) input (A at p) c table table′ work work′ t
+        replies {table′ = table′} {work′ = work′} {t = t} out is a =
+            rw (then-tested s input (A at p) c table (length work) (admitted .grammar) accepts, lt-ltb c (length input) below, by-range out, is)
+            (subst (λ (n : ℕ). Correction (admitted .grammar .rule) n input (A at p) c table table′ work work′ t) (sym (admitted .variables-are))
+            (subst (λ (f : ℕ → Rule). Correction f (l .variables) input (A at p) c table table′ work work′ t) (admitted .rules-are) a))

@@ -1,0 +1,83 @@
+use Rattle.correction.proofs.Asked.{refused-first, refused-small, refused-position, may-pass, refused-range, ready, replies}
+use Rattle.memo.proofs.Questioned.{in-bounds}
+use mathlib.Core.Path.{refl}
+use borrow.Author.Needs.{needs}
+use Rattle.correction.proofs.correct.Statement.{statement}
+use Rattle.correction.proofs.correct.Tie as tie
+
+admit-requires : tie.Need-admit-requires
+admit-requires c κs = search needs
+
+enum-known-read : tie.Need-enum-known-read
+enum-known-read c = search needs
+
+enum-known-read-2 : tie.Need-enum-known-read-2
+enum-known-read-2 c = search needs
+
+too-small-requires : tie.Need-too-small-requires
+too-small-requires c κs =
+    let a = c .before .before .before .before .before .before .before .before .before .args in
+    in-bounds (c .before .before .before .admit .ensures) (a .table .now) (a .work .now) (c .before .read2 .given .1)
+
+returns : tie.Need-returns
+returns c =
+    let a = c .before .before .before .before .before .before .before .before .before .before .before .args in
+    refused-small (c .before .before .before .before .before .admit .ensures) (a .c) (a .table .now) (a .work .now) (c .before .before .before .read2 .given .1) (c .before .too-small .ensures) (c .if1 .taken) refl refl refl
+
+returns-2 : tie.Need-returns-2
+returns-2 c =
+    let a = c .before .before .before .before .before .before .before .before .before .before .before .before .args in
+    refused-position (c .before .before .before .before .before .before .admit .ensures) (a .c) (a .table .now) (a .work .now) (c .before .before .before .before .read2 .given .1) (c .before .before .too-small .ensures) (c .before .if1 .left) (c .if2 .taken) refl refl refl
+
+retained-out-requires : tie.Need-retained-out-requires
+retained-out-requires c κs =
+    let a = c .before .before .before .before .before .before .before .before .before .before .before .before .before .args in
+    may-pass (c .before .before .before .before .before .before .before .admit .ensures) (a .c) (a .table .now) (a .work .now) (c .before .before .before .before .before .read2 .given .1) (c .before .before .before .too-small .ensures) (c .before .before .if1 .left) (c .before .if2 .left)
+
+same-length : tie.Need-same-length
+same-length c = search needs
+
+returns-3 : tie.Need-returns-3
+returns-3 c =
+    let a = c .before .before .before .before .before .before .before .before .before .before .before .before .before .before .before .args in
+    refused-range (c .before .before .before .before .before .before .before .before .before .admit .ensures) (a .c) (a .table .now) (a .work .now) (c .before .before .before .before .before .before .before .read2 .given .1) (c .before .before .before .before .before .too-small .ensures) (c .before .before .before .before .if1 .left) (c .before .before .before .if2 .left) (c .before .retained-out .ensures) (c .if3 .taken) refl refl refl
+
+ask-corrected-requires : tie.Need-ask-corrected-requires
+ask-corrected-requires c κs =
+    let a = c .before .before .before .before .before .before .before .before .before .before .before .before .before .before .before .before .before .before .args in
+    ready (c .before .before .before .before .before .before .before .before .before .before .before .before .admit .ensures) (a .c) (a .table .now) (a .work .now) (c .before .before .before .before .before .before .before .before .before .before .read2 .given .1) (c .before .before .before .before .before .before .before .before .too-small .ensures) (c .before .before .before .before .before .before .before .if1 .left) (c .before .before .before .before .before .before .if2 .left) (c .before .before .before .before .retained-out .ensures) (c .before .before .before .if3 .left)
+
+returns-4 : tie.Need-returns-4
+returns-4 c =
+    let a = c .before .before .before .before .before .before .before .before .before .args in
+    refused-first (c .before .before .before .admit .ensures) (a .c) (a .table .now) (a .work .now) (c .before .read .given .1) refl refl refl
+
+same-length-2 : tie.Need-same-length-2
+same-length-2 c = c .before .before .before .before .ask-corrected .ensures .size
+
+same-length-3 : tie.Need-same-length-3
+same-length-3 c = c .before .before .before .before .ask-corrected .ensures .work-size
+
+returns-5 : tie.Need-returns-5
+returns-5 c =
+    let a = c .before .before .before .before .before .before .before .before .before .before .before .before .before .before .before .before .before .before .before .before .before .before .before .args in
+    replies (c .before .before .before .before .before .before .before .before .before .before .before .before .before .before .before .before .before .admit .ensures) (a .c) (a .table .now) (a .work .now) (c .before .before .before .before .before .before .before .before .before .before .before .before .before .before .before .read2 .given .1) (c .before .before .before .before .before .before .before .before .before .before .before .before .before .too-small .ensures) (c .before .before .before .before .before .before .before .before .before .before .before .before .if1 .left) (c .before .before .before .before .before .before .before .before .before .before .before .if2 .left) (c .before .before .before .before .before .before .before .before .before .retained-out .ensures) (c .before .before .before .before .before .before .before .before .if3 .left) (c .before .before .before .before .ask-corrected .ensures)
+
+pub correct-spec : {M : Type 1} → statement M
+correct-spec =
+    tie.close
+    (tie.spec
+    admit-requires
+    enum-known-read
+    enum-known-read-2
+    too-small-requires
+    returns
+    returns-2
+    retained-out-requires
+    same-length
+    returns-3
+    ask-corrected-requires
+    returns-4
+    same-length-2
+    same-length-3
+    returns-5)

@@ -1,0 +1,20 @@
+-- Document 02, order 4: the condition of refusal 19. Assumes nothing.
+use mathlib.Core.Bool.{Bool, false, not, _&&_, _||_}
+use mathlib.Core.List.{List}
+use Prim.Native.Nat.{ℕ, zero, suc, _+_}
+use lib.Dec.{ltb}
+use Rattle.schema.specs.Derivation.{_at_}
+use Rattle.kept.specs.Kept.{retained}
+
+-- "over 5 + n or a success ending left of its place": the number k of a cell at the position p, on n bytes.
+abbrev pub outOfRange : ℕ → ℕ → ℕ → Bool
+outOfRange n p k = ltb (5 + n) k || (not (ltb k 5) && ltb k (5 + p))
+
+-- Some number below m passes the test.
+unfoldable pub some : ℕ → (ℕ → Bool) → Bool
+some zero test = false
+some (suc m) test = test m || some m test
+
+-- "19 a retained cell over 5 + n or a success ending left of its place": of v variables, at some position from 0 to n.
+unfoldable pub retainedOut : ℕ → ℕ → ℕ → List ℕ → Bool
+retainedOut v n c T = some v (λ i. some (n + 1) (λ p. outOfRange n p (retained c n T (suc i at p))))

@@ -1,0 +1,1 @@
+// Tables that are kept from call to call: definitions and laws, no code.

@@ -1,0 +1,2 @@
+-- Why the passes do what they promise.
+pub mod Passing

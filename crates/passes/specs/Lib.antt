@@ -1,0 +1,2 @@
+-- What the passes of a correction over a table promise.
+pub mod Passes

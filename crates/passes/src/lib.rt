@@ -1,0 +1,79 @@
+// The two passes of a correction over a table, row by row: whether a retained cell is out of range, and blanking up to a position.
+ghost use mathlib.Core.Path.{_≡_};
+ghost use Prim.Native.Nat.{_+_, _≤_, _<_};
+ghost use lib.ListN.{length};
+ghost use Rattle.kept.specs.Range.{outOfRange, retainedOut};
+ghost use Rattle.passes.specs.Passes.{PassReady, rowOut, Blanks, Retains};
+use cells::Cell;
+
+// Is this number of a cell at a position over 5 + n, or that of a success ending left of it?
+fn out_of_range(cell: Cell, position: usize, n: usize) -> bool
+    ensures { λ r. ⌜ r ≡ outOfRange n position (cell .0) ⌝ }
+{
+    if cell.0 < Cell::SUCCESS.0 {
+        return false;
+    }
+    let end = (cell.0 - Cell::SUCCESS.0) as usize;
+    if n < end {
+        return true;
+    }
+    end < position
+}
+
+// The same of some retained cell among those of one variable, which begin at a number.
+fn row_out(table: &[u32], start: usize, n: usize, c: usize) -> bool
+    requires { ⌜ (n ≤ 4096) × (c < n) × (start + n < length (now table)) ⌝ }
+    ensures { λ r. ⌜ r ≡ rowOut n c (now (table .entry)) start ⌝ }
+{
+    let mut position = c + 1;
+    while position <= n {
+        if out_of_range(Cell::load(table, start + position), position, n) {
+            return true;
+        }
+        position += 1;
+    }
+    false
+}
+
+// Refusal 19: is a retained cell of the table out of range?
+pub fn retained_out(table: &[u32], variables: u32, n: usize, c: usize) -> bool
+    requires { ⌜ PassReady variables n c (now table) ⌝ }
+    ensures { λ r. ⌜ r ≡ retainedOut variables n c (now (table .entry)) ⌝ }
+{
+    let mut row: u32 = 0;
+    let mut start: usize = 0;
+    while row < variables {
+        if row_out(table, start, n, c) {
+            return true;
+        }
+        start += n + 1;
+        row += 1;
+    }
+    false
+}
+
+// Blanks the cells from one number up to another.
+fn blank_between(table: &mut [u32], first: usize, end: usize)
+    requires { ⌜ (first ≤ end) × (end ≤ length (now table)) ⌝ }
+    ensures { λ _. ⌜ Blanks first end (now (table .entry)) (now (table .exit)) ⌝ }
+{
+    let mut i = first;
+    while i < end {
+        Cell::BLANK.store(table, i);
+        i += 1;
+    }
+}
+
+// Blanks the cells at positions up to c, and retains the others.
+pub fn blank_to(table: &mut [u32], variables: u32, n: usize, c: usize)
+    requires { ⌜ PassReady variables n c (now table) ⌝ }
+    ensures { λ _. ⌜ Retains variables n c (now (table .entry)) (now (table .exit)) ⌝ }
+{
+    let mut row: u32 = 0;
+    let mut start: usize = 0;
+    while row < variables {
+        blank_between(table, start, start + c + 1);
+        start += n + 1;
+        row += 1;
+    }
+}
