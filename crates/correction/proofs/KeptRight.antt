@@ -1,24 +1,19 @@
 -- Right cells are what the walk asks of a table. Assumes nothing.
 use mathlib.Core.List.{List}
-use mathlib.Core.Path.{_≡_, sym, ap, _∙_, subst}
-use Prim.Native.Nat.{ℕ, _+_, _≤_}
+use mathlib.Core.Path.{_≡_}
+use Prim.Native.Nat.{ℕ, _≤_}
 use native.Mathlib.Omega.{arith}
 use lib.ListN.{length}
 use Rattle.grammar.specs.Rule.{Rule}
-use Rattle.schema.specs.Cells.{heldAt}
 use Rattle.schema.specs.Closed.{Closed}
 use Rattle.schema.specs.Derivation.{Pair, _at_, Result, second, result, Has}
 use Rattle.schema.specs.Table.{code, held}
-use Rattle.schema.proofs.Cell.{pairOf, PairWithin, cell-pair, pair-within}
+use Rattle.schema.proofs.Cell.{PairWithin, held-pair, pair-within}
 use Rattle.schema.proofs.Ends.{ends-in, derives-ends}
 use Rattle.step.specs.Codes.{Settled}
 use Rattle.walk.specs.Walk.{RightTable}
 use Rattle.kept.proofs.Ranged.{range-most, right-in}
 use Rattle.kept.proofs.RightCells.{RightCells, held-has, first-in, second-in}
-
--- What a cell holds, by its number.
-pub at-cell : (n : ℕ) (T : List ℕ) (i : ℕ) → held n T (pairOf n i) ≡ heldAt T i
-at-cell n T i = ap (λ (k : ℕ). heldAt T k) (cell-pair n i)
 
 module _ (rule : ℕ → Rule) (v : ℕ) (s : List ℕ) (closed : Closed v rule) (short : length s ≤ 4096) (T : List ℕ) where
   settles : (y : Pair) (r : Result) → PairWithin v (length s) y → Has rule s y (result r) → held (length s) T y ≡ code (result r)
@@ -29,7 +24,7 @@ module _ (rule : ℕ → Rule) (v : ℕ) (s : List ℕ) (closed : Closed v rule)
   right-table h = record {
     no-open = λ i l e.
         let k = range-most (length s) _ _ (right-in rule v s h _ _ (pair-within v (length s) i l)) in
-        let z = at-cell (length s) T i in
+        let z = held-pair (length s) T i in
         omega arith;
     right = λ A p r w m. held-has rule v closed s (A at p) r h w (m .code-is);
     whole = λ A B C D p r w m a.

@@ -26,16 +26,43 @@ use Rattle.memo.proofs.Result.{count-is, answer-is}
 use Rattle.kept.specs.Differs.{DiffersAt}
 use Rattle.kept.specs.Kept.{retained, KeptTable, corrected}
 use Rattle.kept.specs.Range.{retainedOut}
-use Rattle.kept.proofs.Filled.{filled}
+use Rattle.kept.proofs.Filled.{filled, new-most}
 use Rattle.kept.proofs.Ranged.{none-out, right-in}
 use Rattle.kept.proofs.RightCells.{ask-right, retain-right, kept-right}
 use Rattle.correction.specs.Correction.{Corrects, Correction, Replies, CorrectionPromise}
-use Rattle.correction.specs.Refusals.{correctedOut, correctable}
-use Rattle.correction.proofs.CorrectionRefusals.{refused-before, then-tested}
+use Rattle.correction.specs.Refusals.{correctedOut, Refuses, correctable}
+use Rattle.correction.proofs.CorrectionRefusals.{refused-before, then-tested, correction-refused, correction-small}
 
 module _ (s input : List ℕ) (A p c : ℕ) (table work : List ℕ) where
   abbrev question : Handed
   question = questionOf input (A at p) (length table) (length work)
+
+  -- ---- Demand 1, of any result.
+
+  module _ (table′ work′ : List ℕ) (r : Answer) (promise : CorrectionPromise s input A p c table table′ work work′ r) where
+    given : (o : Checked Grammar) → correctable s input (A at p) c table (length work) ≡ o → Replies o input (A at p) c table table′ work work′ (told r)
+    given o e = subst (λ (o : Checked Grammar). Replies o input (A at p) c table table′ work work′ (told r)) e promise
+
+    refused-is : (x l : ℕ) → told r ≡ refused x l → correctable s input (A at p) c table (length work) ≡ refused x l
+    refused-is x l f = by-sheet (correctable s input (A at p) c table (length work)) refl
+      where
+        by-sheet : (o : Checked Grammar) → correctable s input (A at p) c table (length work) ≡ o → correctable s input (A at p) c table (length work) ≡ refused x l
+        by-sheet (refused y m) e = let k = given (refused y m) e .0 in cc
+        by-sheet (accepted g) e = let k = given (accepted g) e .accepts in absurd (true≢false (cc))
+
+    -- Refused with a number exactly under its condition,
+    pub refused-exactly : (x l : ℕ) → (told r ≡ refused x l) ↔ Refuses s input (A at p) c table (length work) x l
+    refused-exactly x l =
+        let k = correction-refused s input (A at p) c table (length work) x l in
+        (λ e. k .0 (refused-is x l e), λ f. given (refused x l) (k .1 f) .0)
+
+    -- and then both slices are as they were.
+    pub then-unchanged : (x l : ℕ) → told r ≡ refused x l → (table′ ≡ table) × (work′ ≡ work)
+    then-unchanged x l e = let k = given (refused x l) (refused-is x l e) in (k .1, k .2)
+
+    -- The numbers of a refusal are at most 19.
+    pub refusal-most : (x l : ℕ) → told r ≡ refused x l → x ≤ 19
+    refusal-most x l e = correction-small s input (A at p) c table (length work) x l (refused-is x l e)
 
   -- ---- A kept table is never refused with 19.
 
@@ -99,7 +126,7 @@ module _ (s input : List ℕ) (A p c : ℕ) (table work : List ℕ) where
     module _ (table′ work′ : List ℕ) (r : Answer) (promise : CorrectionPromise s input A p c table table′ work work′ r) where
       -- It has a reply, from any table.
       pub correction : Correction (g .rule) (g .variables) input (A at p) c table table′ work work′ (told r)
-      correction = subst (λ (o : Checked Grammar). Replies o input (A at p) c table table′ work work′ (told r)) accepts promise
+      correction = given table′ work′ r promise (accepted g) accepts
 
       -- From a kept table:
       module _ (old : List ℕ) (differs : DiffersAt c old input) (kept : KeptTable (g .rule) (g .variables) old table) where
@@ -142,6 +169,10 @@ module _ (s input : List ℕ) (A p c : ℕ) (table work : List ℕ) where
             let closed = sheet-closed s g reads in
             let before = retain-right (g .rule) (g .variables) closed old input c differs table (kept-right (g .rule) (g .variables) closed kept) in
             ask-right (g .rule) (g .variables) closed input before (corrects .leaves) .right
+
+        -- No more cells are newly decided than there are.
+        pub count-most : corrects .count ≤ cells (g .variables) (length input)
+        count-most = new-most (g .rule) input (g .variables) (corrects .leaves) (sheet-closed s g reads) within (corrects .counts)
 
         -- The table is kept again.
         pub kept-again : KeptTable (g .rule) (g .variables) input table′

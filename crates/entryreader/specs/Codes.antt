@@ -15,6 +15,7 @@ use Rattle.finish.specs.Reply.{told}
 use Rattle.reports.specs.Numbers.{questionNumbers}
 use Rattle.memo.specs.Answer.{QuestionPromise}
 use Rattle.finish.specs.declared.Answer.{Answer}
+use Rattle.correction.specs.Correction.{CorrectionPromise}
 use Rattle.shorthand.specs.Promise.{told as compiles, CompilePromise}
 use Rattle.shorthand.specs.declared.Compiled.{Compiled}
 
@@ -40,6 +41,15 @@ codeOf xs = cond (eqb (getD xs 0 0) 9) (100 + getD xs 1 0) (getD xs 0 0)
 pub record QuestionNumbers (sheet input : List ℕ) (A p : ℕ) (table table′ work work′ answer answer′ : List ℕ) (r : ℕ) : Type 0 where
   pub found : Answer
   pub promise : QuestionPromise sheet input A p table table′ work work′ found
+  pub returns : r ≡ returned (told found)
+  pub reports : answer′ ≡ reported questionNumbers answer (told found)
+
+-- ---- The correction.
+
+-- The call's promise: that of the correction, with its answer in the question's numbers; the count is of newly decided cells.
+pub record CorrectionNumbers (sheet input : List ℕ) (A p c : ℕ) (table table′ work work′ answer answer′ : List ℕ) (r : ℕ) : Type 0 where
+  pub found : Answer
+  pub promise : CorrectionPromise sheet input A p c table table′ work work′ found
   pub returns : r ≡ returned (told found)
   pub reports : answer′ ≡ reported questionNumbers answer (told found)
 

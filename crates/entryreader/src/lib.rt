@@ -4,7 +4,7 @@ ghost use mathlib.Core.Path.{_≡_};
 ghost use Rattle.schema.specs.Exported.{returned, reported, Fits};
 ghost use Rattle.shorthand.specs.Promise.{told};
 ghost use Rattle.verdict.specs.Verdict.{numbers};
-ghost use Rattle.entryreader.specs.Codes.{codeOf, VerdictCode, QuestionNumbers, lengthNumbers, ShorthandNumbers};
+ghost use Rattle.entryreader.specs.Codes.{codeOf, VerdictCode, QuestionNumbers, CorrectionNumbers, lengthNumbers, ShorthandNumbers};
 use reports::report;
 use shorthand::Compiled;
 use verdict::Judgement;
@@ -50,6 +50,25 @@ pub extern "C" fn entryreader_question(
     ensures { λ r. ⌜ QuestionNumbers (now (sheet .entry)) (now (input .entry)) variable position (now (table .entry)) (now (table .exit)) (now (work .entry)) (now (work .exit)) (now (answer .entry)) (now (answer .exit)) r ⌝ }
 {
     let found = memo::question(sheet, input, variable, position, table, work);
+    report(found, answer)
+}
+
+// A question about an input of which the byte at c was corrected, over the table that a question or a correction left of the input before: as the
+// question, with the count of newly decided cells.
+#[no_mangle]
+pub extern "C" fn entryreader_correct(
+    sheet: &[u8],
+    input: &[u8],
+    variable: u32,
+    position: u32,
+    c: u32,
+    table: &mut [u32],
+    work: &mut [u32],
+    answer: &mut [u32; 4],
+) -> u32
+    ensures { λ r. ⌜ CorrectionNumbers (now (sheet .entry)) (now (input .entry)) variable position c (now (table .entry)) (now (table .exit)) (now (work .entry)) (now (work .exit)) (now (answer .entry)) (now (answer .exit)) r ⌝ }
+{
+    let found = correction::correct(sheet, input, variable, position, c, table, work);
     report(found, answer)
 }
 

@@ -1,33 +1,106 @@
 -- The cells that are not blank after a question over a table, and those that it newly decides. Assumes nothing.
 use mathlib.Core.List.{List}
 use mathlib.Core.Logic.{_⊎_, inl, inr, _≢_, _↔_}
-use mathlib.Core.Path.{_≡_, sym, _∙_}
-use Prim.Native.Nat.{ℕ}
+use mathlib.Core.Path.{_≡_, sym, _∙_, subst}
+use Prim.Native.Nat.{ℕ, zero, suc, _+_, _≤_, _<_}
 use native.Mathlib.Decide.{ℕ-discrete}
 use lib.ListN.{length}
+use Rattle.calls.proofs.Count.{Count, none, hit, miss, count-map, count-le, count-both}
 use Rattle.grammar.specs.Rule.{Rule}
+use Rattle.schema.specs.Closed.{Closed}
 use Rattle.schema.specs.Derivation.{Pair, _at_}
-use Rattle.schema.specs.Reached.{Reached}
-use Rattle.schema.specs.Table.{Within, held, Table}
+use Rattle.schema.specs.Reached.{Reached, Number}
+use Rattle.schema.specs.Table.{Within, cells, held, Table}
+use Rattle.schema.proofs.Answer.{reached-cell}
+use Rattle.schema.proofs.Cell.{pairOf, PairWithin, pair-within}
 use Rattle.schema.proofs.Codes.{code-full}
+use Rattle.schema.proofs.Counted.{number-cells}
+use Rattle.schema.proofs.Laws.{number-one}
+use Rattle.kept.specs.New.{New}
+
+-- What can be decided can be counted.
+counted : (P : ℕ → Type 0) → ((i : ℕ) → Dec (P i)) → (n : ℕ) → (c : ℕ) × Count P n c
+counted P d zero = (0, none)
+counted P d (suc n) = let r = counted P d n in elim (d n) [
+  | yes p ↦ (suc (r .0), hit p (r .1))
+  | no q ↦ (r .0, miss q (r .1))
+]
 
 module _ (rule : ℕ → Rule) (s : List ℕ) (v : ℕ) {x : Pair} {start : Pair → ℕ} {O T : List ℕ} (leaves : Table rule s v x start O T) where
-  reached-full : (y : Pair) → Reached rule s x y → held (length s) T y ≢ 0
+  abbrev n : ℕ
+  n = length s
+
+  reached-full : (y : Pair) → Reached rule s x y → held n T y ≢ 0
   reached-full y r z = let k = leaves .holds y r in code-full (k .0) (sym (k .2) ∙ z)
 
   -- A cell is not blank exactly if it was not in the start or its pair is reached.
   pub filled : (A p : ℕ) → Within v (length s) A p → (held (length s) T (A at p) ≢ 0) ↔ ((start (A at p) ≢ 0) ⊎ Reached rule s x (A at p))
   filled A p w = (there, back)
     where
-      there : held (length s) T (A at p) ≢ 0 → (start (A at p) ≢ 0) ⊎ Reached rule s x (A at p)
-      there n = elim (ℕ-discrete (held (length s) T (A at p)) (start (A at p))) [
-        | yes e ↦ inl (λ z. n (e ∙ z))
+      there : held n T (A at p) ≢ 0 → (start (A at p) ≢ 0) ⊎ Reached rule s x (A at p)
+      there m = elim (ℕ-discrete (held n T (A at p)) (start (A at p))) [
+        | yes e ↦ inl (λ z. m (e ∙ z))
         | no d ↦ inr (leaves .others A p w d)
       ]
 
-      back : (start (A at p) ≢ 0) ⊎ Reached rule s x (A at p) → held (length s) T (A at p) ≢ 0
-      back (inl n) = elim (ℕ-discrete (held (length s) T (A at p)) (start (A at p))) [
-        | yes e ↦ λ z. n (sym e ∙ z)
+      back : (start (A at p) ≢ 0) ⊎ Reached rule s x (A at p) → held n T (A at p) ≢ 0
+      back (inl m) = elim (ℕ-discrete (held n T (A at p)) (start (A at p))) [
+        | yes e ↦ λ z. m (sym e ∙ z)
         | no d ↦ reached-full (A at p) (leaves .others A p w d)
       ]
       back (inr r) = reached-full (A at p) r
+
+  -- ---- By the numbers of the cells.
+
+  abbrev Was : ℕ → Type 0
+  Was i = start (pairOf (length s) i) ≢ 0
+
+  abbrev Is : ℕ → Type 0
+  Is i = held (length s) T (pairOf (length s) i) ≢ 0
+
+  new-iff : (i : ℕ) → i < cells v n → ((¬ Was i) × Is i) ↔ New rule s x start (pairOf n i)
+  new-iff i l =
+      let f = filled _ _ (pair-within v n i l) in (
+        λ h. elim (f .0 (h .1)) [
+          | inl m ↦ absurd (h .0 m)
+          | inr r ↦ elim (ℕ-discrete (start (pairOf n i)) 0) [
+            | yes e ↦ (r, e)
+            | no d ↦ absurd (h .0 d)
+          ]
+        ],
+        λ h. (λ m. m (h .1), f .1 (inr (h .0))),
+      )
+
+  either-iff : (i : ℕ) → i < cells v n → (Was i ⊎ Is i) ↔ Is i
+  either-iff i l = (
+    λ h. elim h [
+      | inl m ↦ filled _ _ (pair-within v n i l) .1 (inl m)
+      | inr m ↦ m
+    ],
+    λ m. inr m,
+  )
+
+  decide : (i : ℕ) → Dec ((¬ Was i) × Is i)
+  decide i = elim (ℕ-discrete (start (pairOf n i)) 0) [
+    | yes e ↦ elim (ℕ-discrete (held n T (pairOf n i)) 0) [
+      | yes f ↦ no (λ h. h .1 f)
+      | no d ↦ yes (λ m. m e, d)
+    ]
+    | no d ↦ no (λ h. h .0 d)
+  ]
+
+  new : (c : ℕ) × Count (λ i. (¬ Was i) × Is i) (cells v n) c
+  new = counted (λ i. (¬ Was i) × Is i) decide (cells v n)
+
+  module _ (closed : Closed v rule) (within : PairWithin v (length s) x) where
+    new-number : Number (New rule s x start) (new .0)
+    new-number = number-cells v n (New rule s x start) (λ y h. reached-cell rule s v closed x within (h .0) .0) (count-map new-iff (new .1))
+
+    -- So many cells were not blank, and so many are new: together so many are not blank.
+    pub new-more : {b : ℕ} → Count (λ i. start (pairOf (length s) i) ≢ 0) (cells v (length s)) b
+        → (c : ℕ) × Number (New rule s x start) c × Count (λ i. held (length s) T (pairOf (length s) i) ≢ 0) (cells v (length s)) (b + c)
+    new-more was = (new .0, new-number, count-map either-iff (count-both was (new .1)))
+
+    -- No more are new than there are cells.
+    pub new-most : {c : ℕ} → Number (New rule s x start) c → c ≤ cells v (length s)
+    new-most m = subst (λ (k : ℕ). k ≤ cells v n) (sym (number-one m new-number)) (count-le (new .1))

@@ -15,9 +15,9 @@ use Rattle.schema.specs.Closed.{Closed}
 use Rattle.schema.specs.Derivation.{Pair, Outcome, Has}
 use Rattle.schema.specs.Handed.{Handed, handed}
 use Rattle.schema.specs.Reached.{Reached, Named, Number}
-use Rattle.schema.specs.Table.{cells, held, decided}
+use Rattle.schema.specs.Table.{cells, decided}
 use Rattle.schema.proofs.Answer.{reached-cell}
-use Rattle.schema.proofs.Cell.{pairOf, cell-pair, pair-within, PairWithin}
+use Rattle.schema.proofs.Cell.{pairOf, held-pair, pair-within, PairWithin}
 use Rattle.schema.proofs.Codes.{code-full}
 use Rattle.schema.proofs.Counted.{number-cells}
 use Rattle.schema.proofs.Handed.{handed-sheet}
@@ -53,15 +53,12 @@ module _ (s : List ℕ) (h : Handed) (g : Grammar) (accepts : handed s h ≡ acc
   closed : Closed (g .variables) (g .rule)
   closed = sheet-closed s g (handed-sheet s h g accepts)
 
-  at-cell : (T : List ℕ) (i : ℕ) → held n T (pairOf n i) ≡ heldAt T i
-  at-cell T i = ap (λ (k : ℕ). heldAt T k) (cell-pair n i)
-
   module _ {table table′ work work′ : List ℕ} {a : Reply} (room : cells (g .variables) (length (h .input)) ≤ length table)
       (answers : Answers (g .rule) (g .variables) (h .input) x table table′ work work′ a) where
     -- A cell is blank exactly if its pair is not reached.
     filled : (i : ℕ) → i < size → (heldAt table′ i ≢ 0) ↔ Reached (g .rule) input x (pairOf n i)
     filled i l =
-        let e = at-cell table′ i in (
+        let e = held-pair n table′ i in (
           λ d. answers .leaves .others (i / (n + 1) + 1) (i % (n + 1)) (pair-within (g .variables) n i l) (λ q. d (sym e ∙ q)),
           λ r. let k = answers .leaves .holds (pairOf n i) r in λ q. code-full (k .0) (sym (k .2) ∙ e ∙ q),
         )

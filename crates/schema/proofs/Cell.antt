@@ -1,10 +1,12 @@
 -- The numbers of the cells: below V times (n + 1), one for each pair, and a pair for each. Assumes nothing.
+use mathlib.Core.List.{List}
 use mathlib.Core.Path.{_≡_, sym, ap, ap₂, _∙_}
 use Prim.Native.Nat.{ℕ, _+_, _-_, _*_, _/_, _%_, _≤_, _<_}
 use native.Mathlib.Nat.{suc-mul, mul-le-mul-right, add-comm, add-mul-div-right, add-mul-mod-self-right, div-eq-of-lt, mod-eq-of-lt, mod-lt, div-add-mod', div-lt-iff-lt-mul}
 use native.Mathlib.Omega.{arith}
+use Rattle.schema.specs.Cells.{heldAt}
 use Rattle.schema.specs.Derivation.{Pair, _at_}
-use Rattle.schema.specs.Table.{Within, cell, cells}
+use Rattle.schema.specs.Table.{Within, cell, cells, held}
 
 -- The pair of a cell number.
 abbrev pub pairOf : ℕ → ℕ → Pair
@@ -44,6 +46,10 @@ pub cell-pair : (n i : ℕ) → cell n (pairOf n i) ≡ i
 cell-pair n i =
     let e : i / (n + 1) + 1 - 1 ≡ i / (n + 1) = omega arith in
     ap (λ (a : ℕ). a * (n + 1) + i % (n + 1)) e ∙ div-add-mod' i (n + 1)
+
+-- What a table holds for a number's pair, the cell of the number holds.
+pub held-pair : (n : ℕ) (T : List ℕ) (i : ℕ) → held n T (pairOf n i) ≡ heldAt T i
+held-pair n T i = ap (λ (k : ℕ). heldAt T k) (cell-pair n i)
 
 -- A number below V times (n + 1) is the cell of a pair.
 pub pair-within : (v n i : ℕ) → i < cells v n → PairWithin v n (pairOf n i)
