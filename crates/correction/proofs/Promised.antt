@@ -8,6 +8,7 @@ use native.Mathlib.Omega.{arith}
 use lib.ListN.{length}
 use borrow.Author.Tests.{lt-ltb}
 use Rattle.grammar.specs.Refusal.{Checked, refused, accepted}
+use Rattle.grammar.specs.Rule.{Rule}
 use Rattle.grammar.specs.Sheet.{Grammar, sheet}
 use Rattle.schema.specs.Closed.{Closed}
 use Rattle.schema.specs.Derivation.{_at_, Outcome, Has}
@@ -20,11 +21,11 @@ use Rattle.schema.proofs.SheetClosed.{sheet-closed}
 use Rattle.schema.proofs.Small.{refusal-small}
 use Rattle.finish.specs.Reply.{Reply, reply, outcomeOf, told}
 use Rattle.finish.specs.declared.Answer.{Answer}
-use Rattle.memo.specs.Answer.{QuestionPromise}
+use Rattle.memo.specs.Answer.{Answers, QuestionPromise}
 use Rattle.memo.proofs.Promised.{question-answers}
 use Rattle.memo.proofs.Result.{count-is, answer-is}
 use Rattle.kept.specs.Differs.{DiffersAt}
-use Rattle.kept.specs.Kept.{retained, KeptTable, corrected}
+use Rattle.kept.specs.Kept.{retained, KeptTable, asked, corrected}
 use Rattle.kept.specs.Range.{retainedOut}
 use Rattle.kept.proofs.Filled.{filled, new-most}
 use Rattle.kept.proofs.Ranged.{none-out, right-in}
@@ -32,6 +33,20 @@ use Rattle.kept.proofs.RightCells.{ask-right, retain-right, kept-right}
 use Rattle.correction.specs.Correction.{Corrects, Correction, Replies, CorrectionPromise}
 use Rattle.correction.specs.Refusals.{correctedOut, Refuses, correctable}
 use Rattle.correction.proofs.CorrectionRefusals.{refused-before, then-tested, correction-refused, correction-small}
+
+-- ---- Which tables are kept: "left by a question", which a verdict and the writer ask too;
+
+pub answers-kept : {rule : ℕ → Rule} {v : ℕ} {input : List ℕ} {A p : ℕ} {table table′ work work′ : List ℕ} {a : Reply} → Within v (length input) A p
+    → Answers rule v input (A at p) table table′ work work′ a → KeptTable rule v input table′
+answers-kept w a = asked w (a .leaves)
+
+pub question-kept : (s input : List ℕ) (A p : ℕ) (table table′ work work′ : List ℕ) (r : Answer) → QuestionPromise s input A p table table′ work work′ r
+    → (g : Grammar) → handed s (questionOf input (A at p) (length table) (length work)) ≡ accepted g → KeptTable (g .rule) (g .variables) input table′
+question-kept s input A p table table′ work work′ r promise g accepts =
+    answers-kept (handed-pair s (questionOf input (A at p) (length table) (length work)) g accepts (A at p) refl)
+    (question-answers s input A p table work g accepts table′ work′ r promise .2)
+
+-- "or by this call on a table so left" (`kept-again`).
 
 module _ (s input : List ℕ) (A p c : ℕ) (table work : List ℕ) where
   abbrev question : Handed

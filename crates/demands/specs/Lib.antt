@@ -1,2 +1,3 @@
 -- What the demands say of results that meet the calls' contracts.
 pub mod Demands
+pub mod Corrected
