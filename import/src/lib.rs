@@ -1,7 +1,7 @@
 //! Safe calls of the entry reader, whose code is proved: see the contracts of `crates/entryreader`.
 //!
 //! ```
-//! use import::{Answer, Verdict, question, shorthand, verdict};
+//! use import::{Answer, Verdict, correct, question, shorthand, verdict};
 //!
 //! // A sign, or none; then a digit and a full stop.
 //! let sheet = b"    6    1   46    0    0
@@ -17,6 +17,10 @@
 //! let (mut table, mut work) = ([0; 24], [0; 24]);
 //! let answer = question(sheet, b"-6.", 1, 0, &mut table, &mut work);
 //! assert_eq!(answer, Answer::Success { end: 3, cells: 5 });
+//!
+//! // The byte at 1 is a 9, after all: the full stop behind it is not read again.
+//! let answer = correct(sheet, b"-9.", 1, 0, 1, &mut table, &mut work);
+//! assert_eq!(answer, Answer::Success { end: 3, cells: 4 });
 //!
 //! // The same in the shorthand, the digits 0 and 6 alone.
 //! let mut out = [0; 2_000];
@@ -68,10 +72,14 @@ pub enum Refusal {
     Nesting,
     /// 17: the allowance of the text is over 256.
     Allowance,
+    /// 18, of a correction: the corrected byte's position is not below the entry's length.
+    Corrected,
+    /// 19, of a correction: a retained cell of the table is over 5 + n, or holds a success that ends left of its place.
+    Cell,
 }
 
 impl Refusal {
-    /// The refusal of a number from 1 to 11 or from 15 to 17.
+    /// The refusal of a number from 1 to 11 or from 15 to 19.
     pub fn from_number(number: u32) -> Option<Refusal> {
         let refusal = match number {
             1 => Refusal::NotLines,
@@ -88,6 +96,8 @@ impl Refusal {
             15 => Refusal::Text,
             16 => Refusal::Nesting,
             17 => Refusal::Allowance,
+            18 => Refusal::Corrected,
+            19 => Refusal::Cell,
             _ => return None,
         };
         Some(refusal)
@@ -113,7 +123,7 @@ pub enum Verdict {
     Refused(Refusal),
 }
 
-/// What a question is answered; `cells` is the count of decided cells.
+/// What a question is answered; `cells` is the count of decided cells, after a correction of newly decided ones.
 #[derive(Clone, Copy, Debug, PartialEq, Eq, Hash)]
 pub enum Answer {
     /// Success.
@@ -159,6 +169,26 @@ fn refusal(code: u32) -> Refusal {
         .unwrap_or_else(|| panic!("no code of the entry reader: {code}"))
 }
 
+/// What the four numbers of a question say, or its refusal.
+fn answer(code: u32, numbers: [u32; 4]) -> Answer {
+    if code != 0 {
+        return Answer::Refused(refusal(code));
+    }
+    let [cell, variable, position, cells] = numbers;
+    let named = Pair { variable, position };
+    match cell {
+        0 => panic!("the cell of an answered question is blank"),
+        1 => Answer::Failure { cells },
+        2 => Answer::Loop { named, cells },
+        3 => Answer::Missing { named, cells },
+        4 => Answer::End { named, cells },
+        _ => Answer::Success {
+            end: cell - 5,
+            cells,
+        },
+    }
+}
+
 /// The verdict on an entry under a rule sheet. The call has 1,024 cells: longer entries are refused.
 pub fn verdict(sheet: &[u8], entry: &[u8]) -> Verdict {
     match calls::verdict(sheet, entry) {
@@ -186,22 +216,36 @@ pub fn question(
 ) -> Answer {
     let mut numbers = [0; 4];
     let code = calls::question(sheet, entry, variable, position, table, work, &mut numbers);
-    if code != 0 {
-        return Answer::Refused(refusal(code));
-    }
-    let [cell, variable, position, cells] = numbers;
-    let named = Pair { variable, position };
-    match cell {
-        0 => panic!("the cell of an answered question is blank"),
-        1 => Answer::Failure { cells },
-        2 => Answer::Loop { named, cells },
-        3 => Answer::Missing { named, cells },
-        4 => Answer::End { named, cells },
-        _ => Answer::Success {
-            end: cell - 5,
-            cells,
-        },
-    }
+    answer(code, numbers)
+}
+
+/// The outcome of a variable at a position of an entry of which the byte at `c` was corrected, over the table that a question left of the entry
+/// before, or a correction; `cells` is the count of newly decided cells.
+///
+/// Cells at positions up to `c` are blanked, the others retained. The answer is then the one that a fresh table gives, and afterwards a cell is
+/// not blank where it was retained so or its pair is reached, and holds its pair's outcome: the table serves for the next correction. From any other
+/// table nothing is promised but that the call ends within its slices. Later cells are unchanged, and so are later numbers of the work slice.
+pub fn correct(
+    sheet: &[u8],
+    entry: &[u8],
+    variable: u32,
+    position: u32,
+    c: u32,
+    table: &mut [u32],
+    work: &mut [u32],
+) -> Answer {
+    let mut numbers = [0; 4];
+    let code = calls::correct(
+        sheet,
+        entry,
+        variable,
+        position,
+        c,
+        table,
+        work,
+        &mut numbers,
+    );
+    answer(code, numbers)
 }
 
 /// The rule sheet of a text of the societies' shorthand, written at the front of `out`: its length. What stands behind it is unchanged, and

@@ -1,10 +1,10 @@
-//! Machine, writer and checker, and the question with its bare numbers: for tests and benchmarks, not for the program.
+//! Machine, writer and checker, and question and correction with their bare numbers: for tests and benchmarks, not for the program.
 //!
 //! Each call returns 0 with its numbers in `answer`, or 100 plus the number of a refusal, and then everything lent is as it was.
 //! The code of an outcome is that of a cell: 1 for failure, 2 loop, 3 missing, 4 end, 5 + q for success ending at q.
 use crate::Pair;
 
-pub use crate::calls::question;
+pub use crate::calls::{correct, question};
 
 /// The code of a run whose moves are spent.
 pub const SPENT: u32 = 10_000;

@@ -10,16 +10,8 @@ mod recognizer;
 use comparison::Comparison;
 use import::Pair;
 use questions::{Case, row};
+use recognizer::with_deep_stack;
 use std::io::Write;
-
-/// The recognizer calls itself as deep as a walk is long.
-fn with_deep_stack(test: fn()) {
-    let thread = std::thread::Builder::new().stack_size(1 << 30).spawn(test);
-    thread
-        .expect("a stack of one gigabyte")
-        .join()
-        .expect("the test passes");
-}
 
 /// A question about variable 1.
 fn case(sheet: &str, entry: &[u8], position: u32) -> Case {

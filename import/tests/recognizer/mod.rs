@@ -351,3 +351,12 @@ pub fn size(question: Question) -> Option<Size> {
         .has_result(asked)
         .then(|| recognizer.size(asked, &mut HashMap::new()))
 }
+
+/// The recognizer calls itself as deep as a walk is long.
+pub fn with_deep_stack(test: fn()) {
+    let thread = std::thread::Builder::new().stack_size(1 << 30).spawn(test);
+    thread
+        .expect("a stack of one gigabyte")
+        .join()
+        .expect("the test passes");
+}
