@@ -58,18 +58,21 @@ module _ (rule : ℕ → Rule) (s : List ℕ) (v : ℕ) {x : Pair} {start : Pair
   abbrev Is : ℕ → Type 0
   Is i = held (length s) T (pairOf (length s) i) ≢ 0
 
+  -- A new pair's cell was blank and is not.
+  new-blank : (i : ℕ) → i < cells v n → New rule s x start (pairOf n i) → (¬ Was i) × Is i
+  new-blank i l h = (λ m. m (h .1), filled _ _ (pair-within v n i l) .1 (inr (h .0)))
+
   new-iff : (i : ℕ) → i < cells v n → ((¬ Was i) × Is i) ↔ New rule s x start (pairOf n i)
-  new-iff i l =
-      let f = filled _ _ (pair-within v n i l) in (
-        λ h. elim (f .0 (h .1)) [
-          | inl m ↦ absurd (h .0 m)
-          | inr r ↦ elim (ℕ-discrete (start (pairOf n i)) 0) [
-            | yes e ↦ (r, e)
-            | no d ↦ absurd (h .0 d)
-          ]
-        ],
-        λ h. (λ m. m (h .1), f .1 (inr (h .0))),
-      )
+  new-iff i l = (
+    λ h. elim (filled _ _ (pair-within v n i l) .0 (h .1)) [
+      | inl m ↦ absurd (h .0 m)
+      | inr r ↦ elim (ℕ-discrete (start (pairOf n i)) 0) [
+        | yes e ↦ (r, e)
+        | no d ↦ absurd (h .0 d)
+      ]
+    ],
+    new-blank i l,
+  )
 
   either-iff : (i : ℕ) → i < cells v n → (Was i ⊎ Is i) ↔ Is i
   either-iff i l = (

@@ -185,9 +185,9 @@ module _ {row n c : ℕ} {T₀ T T′ : List ℕ} (below : c < n) (before : Reta
 pub blanking-begins : (v n c : ℕ) (T : List ℕ) → Blanking v n c T T 0 0
 blanking-begins v n c T = record { inside = omega arith; begins = sym (zero-mul (n + 1)); retains = retains-none n c T }
 
-pub blanking-goes-on : {v n c row start : ℕ} {T₀ T T′ : List ℕ} → c < n → row < v → Blanking v n c T₀ T row start → Blanks start (start + c + 1) T T′
+pub blanking-goes-on : {v n c row start : ℕ} {T₀ T : List ℕ} → c < n → row < v → Blanking v n c T₀ T row start → (T′ : List ℕ) → Blanks start (start + c + 1) T T′
     → Blanking v n c T₀ T′ (row + 1) (start + (n + 1))
-blanking-goes-on {n = n} {c = c} {row = row} {T = T} {T′ = T′} l m b k = record {
+blanking-goes-on {n = n} {c = c} {row = row} {T = T} l m b T′ k = record {
   inside = omega arith;
   begins = ap (λ (i : ℕ). i + (n + 1)) (b .begins) ∙ sym (next-row row n);
   retains = retains-more l (b .retains) (subst (λ (i : ℕ). Blanks i (i + c + 1) T T′) (b .begins) k);

@@ -69,11 +69,11 @@ pub fn blank_to(table: &mut [u32], variables: u32, n: usize, c: usize)
     requires { ⌜ PassReady variables n c (now table) ⌝ }
     ensures { λ _. ⌜ Retains variables n c (now (table .entry)) (now (table .exit)) ⌝ }
 {
-    let mut row: u32 = 0;
+    let mut blanked: u32 = 0;
     let mut start: usize = 0;
-    while row < variables {
+    while blanked < variables {
         blank_between(table, start, start + c + 1);
         start += n + 1;
-        row += 1;
+        blanked += 1;
     }
 }

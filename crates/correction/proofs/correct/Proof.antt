@@ -1,6 +1,9 @@
 use Rattle.correction.proofs.Asked.{refused-first, refused-small, refused-position, may-pass, refused-range, ready, replies}
 use Rattle.memo.proofs.Questioned.{in-bounds}
 use mathlib.Core.Path.{refl}
+use Prim.Native.Nat.{_≤_}
+use native.Mathlib.Omega.{arith}
+use lib.ListN.{length}
 use borrow.Author.Needs.{needs}
 use Rattle.correction.proofs.correct.Statement.{statement}
 use Rattle.correction.proofs.correct.Tie as tie
@@ -27,7 +30,8 @@ returns c =
 returns-2 : tie.Need-returns-2
 returns-2 c =
     let a = c .before .before .before .before .before .before .before .before .before .before .before .before .args in
-    refused-position (c .before .before .before .before .before .before .admit .ensures) (a .c) (a .table .now) (a .work .now) (c .before .before .before .before .read2 .given .1) (c .before .before .too-small .ensures) (c .before .if1 .left) (c .if2 .taken) refl refl refl
+    let l : length (a .input .now) ≤ a .c = omega arith in
+    refused-position (c .before .before .before .before .before .before .admit .ensures) (a .c) (a .table .now) (a .work .now) (c .before .before .before .before .read2 .given .1) (c .before .before .too-small .ensures) (c .before .if1 .left) l refl refl refl
 
 retained-out-requires : tie.Need-retained-out-requires
 retained-out-requires c κs =

@@ -17,20 +17,26 @@ loop-holds c = blanking-begins _ _ _ _
 
 add-blank-between : tie.Need-add-blank-between Inv-loop μ-loop
 add-blank-between c =
-    let r = c .before .before .before .before .pre in
-    let i = row-inside _ _ _ _ (c .before .loop-test .taken) (c .before .before .loop .inv .begins) in
+    let st = c .before .before .before .before in
+    let r = st .pre in
+    let l = c .before .before .loop in
+    let i = row-inside (st .args .variables) (st .args .n) (l .blanked) (l .start) (c .before .loop-test .taken) (l .inv .begins) in
     omega (arith, cells-small _ _ (r .few) (r .short), r .below)
 
 add-blank-between-2 : tie.Need-add-blank-between-2 Inv-loop μ-loop
 add-blank-between-2 c =
-    let r = c .before .before .before .before .pre in
-    let i = row-inside _ _ _ _ (c .before .loop-test .taken) (c .before .before .loop .inv .begins) in
+    let st = c .before .before .before .before in
+    let r = st .pre in
+    let l = c .before .before .loop in
+    let i = row-inside (st .args .variables) (st .args .n) (l .blanked) (l .start) (c .before .loop-test .taken) (l .inv .begins) in
     omega (arith, cells-small _ _ (r .few) (r .short), r .below)
 
 blank-between-requires : tie.Need-blank-between-requires Inv-loop μ-loop
 blank-between-requires c κs =
-    let r = c .before .before .before .before .pre in
-    let i = row-inside _ _ _ _ (c .before .loop-test .taken) (c .before .before .loop .inv .begins) in
+    let st = c .before .before .before .before in
+    let r = st .pre in
+    let l = c .before .before .loop in
+    let i = row-inside (st .args .variables) (st .args .n) (l .blanked) (l .start) (c .before .loop-test .taken) (l .inv .begins) in
     let z = c .before .before .loop .inv .retains .size in
     (omega arith, omega (arith, r .room, r .below))
 
@@ -39,19 +45,21 @@ add-start c = omega (arith, c .before .before .before .before .before .before .b
 
 add-start-2 : tie.Need-add-start-2 Inv-loop μ-loop
 add-start-2 c =
-    let r = c .before .before .before .before .before .before .before .pre in
-    let i = row-inside _ _ _ _ (c .before .before .before .before .loop-test .taken) (c .before .before .before .before .before .loop .inv .begins) in
+    let st = c .before .before .before .before .before .before .before in
+    let r = st .pre in
+    let l = c .before .before .before .before .before .loop in
+    let i = row-inside (st .args .variables) (st .args .n) (l .blanked) (l .start) (c .before .before .before .before .loop-test .taken) (l .inv .begins) in
     omega (arith, cells-small _ _ (r .few) (r .short))
 
-add-row : tie.Need-add-row Inv-loop μ-loop
-add-row c = search needs
+add-blanked : tie.Need-add-blanked Inv-loop μ-loop
+add-blanked c = search needs
 
 loop-less : tie.Need-loop-less Inv-loop μ-loop
 loop-less c = search needs
 
 loop-again : tie.Need-loop-again Inv-loop μ-loop
 loop-again c =
-    blanking-goes-on (c .before .before .before .before .before .before .before .pre .below) (c .before .before .before .before .loop-test .taken) (c .before .before .before .before .before .loop .inv) (c .before .before .blank-between .ensures)
+    blanking-goes-on (c .before .before .before .before .before .before .before .pre .below) (c .before .before .before .before .loop-test .taken) (c .before .before .before .before .before .loop .inv) (c .before .before .blank-between .last .0) (c .before .before .blank-between .ensures)
 
 same-length : tie.Need-same-length Inv-loop μ-loop
 same-length c = c .before .loop .inv .retains .size
@@ -71,7 +79,7 @@ blank-to-spec =
     blank-between-requires
     add-start
     add-start-2
-    add-row
+    add-blanked
     loop-less
     loop-again
     same-length
