@@ -11,7 +11,7 @@ What comes from where:
   LPeg (judge.lua)  outcome and end of each question whose rules LPeg takes, and the named pair of missing and end. It refuses rules
                     that may be left recursive. Each match is a process of its own with a limit of time, which ends this script.
   reader.py         loops; outcome and end where LPeg refuses the rules or would take too many calls; counts, tables, refusals,
-                    the machine's runs, readings and what the checker says of them.
+                    the machine's runs, readings and what the checker says of them; corrections (corrections.py).
 Where both judge they must agree, or this script ends with an error. k and h, from which the machine's budgets and rooms are chosen, are
 computed by the definition. Nothing comes from the program under test. The layout of the files is described in
 crates/test_questions/src/main.rt.
@@ -27,6 +27,7 @@ import threading
 HERE = os.path.dirname(os.path.abspath(__file__))
 sys.path.append(os.path.join(HERE, ".."))
 
+import corrections
 import questions
 from making import Store, install, line, load_reference, stop
 
@@ -40,8 +41,8 @@ NUMBERS = questions.CELLS
 UNTOUCHED_NUMBER, UNTOUCHED_BYTE = 77777, 42
 MODULUS = 9999991
 
-QUESTION, MACHINE, READING, DAMAGE = 0, 1, 2, 3                      # tasks of a request
-WRITER, CHECKER, END = 2, 3, 5                                       # kinds of answers beside the tasks
+QUESTION, MACHINE, READING, DAMAGE, KEPT, CORRECTION = 0, 1, 2, 3, 4, 5   # tasks of a request
+WRITER, CHECKER, END, CORRECTED = 2, 3, 5, 6                              # kinds of answers beside the tasks
 CODES = {"success": 0, "failure": 1, "loop": 2, "missing": 3, "end": 4, "spent": 6, "no frame": 7}
 REFUSED = 9
 
@@ -275,6 +276,32 @@ class Maker:
         said = f"refused with {c.number}" if self.reference.refused(c) else "passed"
         self.tally[("damaged readings", said)] += 1
 
+    # Corrections.
+
+    def four(self, found):
+        """The numbers of an answer."""
+        if self.reference.refused(found): return REFUSED, found.number, found.line, 0
+        variable, place = found.named or (0, found.end or 0)
+        return CODES[found.outcome], variable, place, found.count
+
+    def kept(self, q):
+        """A question whose entry and table are kept; its answer and the table."""
+        found, table = self.reference.question(q)
+        number = self.files.request(q, KEPT, q.x, q.y)
+        self.files.answer(number, QUESTION, *self.four(found), summed(table))
+        return found, table
+
+    def correction(self, stored, q, c, byte, table):
+        """A question about a kept entry whose byte at c was corrected; stored is an entry of the same length in the file."""
+        found = self.reference.module.correct(q.sheet, q.entry, q.variable, q.place, table, [0] * len(table), c, order=4)
+        number = self.files.request(q._replace(entry=stored), CORRECTION, c, 256 * len(table) + byte)
+        self.files.answer(number, CORRECTED, *self.four(found), summed(table))
+        if self.reference.refused(found): self.tally[("corrections", f"refused with {found.number}")] += 1
+        else:
+            self.tally[("corrections", found.outcome)] += 1
+            self.tally[("correction judge", self.judged(q, found)[1])] += 1
+        return found
+
 
 # ---------------------------------------------------------------- choices
 
@@ -316,7 +343,8 @@ def run_readings(maker, asked):
 def summary(maker, sizes, ranges):
     out = [f"Questions: {len(maker.sources)}. Requests: {len(maker.files.requests)}. Classes: {ranges}",
            f"Bytes of sheets.txt, entries, questions.txt: {sizes[0]}, {sizes[1]}, {sizes[2]}.", ""]
-    for kind in ("kind", "outcome", "source", "outcome and judge", "entry", "tasks", "machine", "damaged readings"):
+    for kind in ("kind", "outcome", "source", "outcome and judge", "entry", "tasks", "machine", "damaged readings", "chains", "corrections",
+                 "correction judge", "corrected byte", "asked place", "retained, reached", "refused with 19"):
         for (k, name), count in sorted(maker.tally.items()):
             if k == kind: out.append(f"{kind:18} {count:5}  {name}")
         out.append("")
@@ -327,7 +355,8 @@ HEAD = """Where the expected answers of crates/test_questions come from; written
 
 A line for each question: its line in questions.txt, V, the entry's length, variable, place, outcome, the judge of outcome and end, and
 its group. Judged by LPeg: outcome, end and the pair of missing and end are LPeg's, and reader.py agrees. The count of cells and the
-table's sum are always reader.py's, and so are all answers of the machine, the writer and the checker.
+table's sum are always reader.py's, and so are all answers of the machine, the writer and the checker. Corrections have no lines here;
+their answers are reader.py's, and LPeg agrees on outcome, end and the pair of missing and end where it is named as their judge.
 
 """
 
@@ -363,10 +392,12 @@ def make(options):
         for q, outcome in asked:
             if outcome == "refused": maker.run(q, 1000, NUMBERS)
         run_readings(maker, asked)
+        corrections.run(maker, asked)
     text = summary(maker, maker.files.write(), ranges)
     write_sources(maker, text)
     print(text)
     check_numbers(maker)
+    corrections.check_numbers(maker.tally)
 
 
 def main():

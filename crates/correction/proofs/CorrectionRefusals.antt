@@ -1,15 +1,15 @@
 -- A correction is refused with a number exactly under that number's condition, where no condition that comes earlier in the order holds. Assumes nothing.
-use mathlib.Core.Bool.{Bool, cond}
+use mathlib.Core.Bool.{cond}
 use mathlib.Core.List.{List}
 use mathlib.Core.Logic.{_↔_}
 use mathlib.Core.Path.{_≡_, ap, ap₂, _∙_}
 use Prim.Native.Nat.{ℕ, _≤_, _<_}
 use native.Mathlib.Omega.{arith}
 use lib.ListN.{length}
-use Rattle.grammar.specs.Refusal.{Checked, refused, accepted, checked}
+use Rattle.grammar.specs.Refusal.{refused, accepted, checked}
 use Rattle.grammar.specs.Sheet.{Grammar, grammarOf}
 use Rattle.grammar.proofs.Accepted.{describes}
-use Rattle.grammar.proofs.Refusals.{then, Each, each-append, each-also, refused-each, refused-exactly, checked-then, checked-below, checked-from}
+use Rattle.grammar.proofs.Refusals.{then, each-append, each-also, refused-each, refused-exactly, checked-then, checked-below, checked-from}
 use Rattle.schema.specs.Derivation.{Pair}
 use Rattle.schema.specs.Handed.{Handed, handedCondition, handedOrder, handed, questionOf}
 use Rattle.schema.proofs.CallRefusals.{call-numbers}

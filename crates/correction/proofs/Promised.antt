@@ -10,7 +10,6 @@ use borrow.Author.Tests.{lt-ltb}
 use Rattle.grammar.specs.Refusal.{Checked, refused, accepted}
 use Rattle.grammar.specs.Rule.{Rule}
 use Rattle.grammar.specs.Sheet.{Grammar, sheet}
-use Rattle.schema.specs.Closed.{Closed}
 use Rattle.schema.specs.Derivation.{_at_, Outcome, Has}
 use Rattle.schema.specs.Handed.{Handed, handed, questionOf}
 use Rattle.schema.specs.Reached.{Reached}

@@ -7,7 +7,7 @@ use lib.ListN.{length}
 use Rattle.grammar.specs.Refusal.{refused, accepted}
 use Rattle.grammar.specs.Sheet.{Grammar}
 use Rattle.schema.specs.Derivation.{_at_, Outcome, Has}
-use Rattle.schema.specs.Handed.{handed, asked, questionOf}
+use Rattle.schema.specs.Handed.{questionOf}
 use Rattle.schema.specs.Reached.{Number}
 use Rattle.schema.specs.Table.{cells}
 use Rattle.rules.proofs.Admitted.{question-accepted}

@@ -1,9 +1,10 @@
 -- The numbers that refusal 19 lets pass, and that those of a kept table are among them. Assumes nothing.
-use mathlib.Core.Bool.{Bool, true, false, cond, not, _&&_, _||_, true≢false}
+use mathlib.Core.Bool.{Bool, true, false, not, _&&_, _||_, true≢false}
 use mathlib.Core.List.{List}
-use mathlib.Core.Path.{_≡_, refl, sym, ap, _∙_, subst}
+use mathlib.Core.Path.{_≡_, refl, sym, ap, _∙_}
 use Prim.Native.Nat.{ℕ, zero, suc, _+_, _-_, _≤_, _<_}
 use native.Mathlib.Decide.{ℕ-discrete}
+use native.Mathlib.Numerals.{add-one}
 use native.Mathlib.Omega.{arith}
 use lib.Dec.{ltb}
 use lib.ListN.{length}
@@ -23,18 +24,23 @@ use Rattle.kept.proofs.RightCells.{RightCells}
 pub some-none : (m : ℕ) (test : ℕ → Bool) → ((i : ℕ) → i < m → test i ≡ false) → some m test ≡ false
 unfolding some
 some-none zero test none = refl
-some-none (suc m) test none = rw (none m (omega arith), some-none m test (λ i l. none i (omega arith)))
+some-none (suc m) test none = rw (some-none m test (λ i l. none i (omega arith)), none m (omega arith))
 
 -- where it is false, each fails;
 pub some-each : (m : ℕ) (test : ℕ → Bool) → some m test ≡ false → (i : ℕ) → i < m → test i ≡ false
 unfolding some
 some-each zero test e i l = absurd (omega arith)
 some-each (suc m) test e i l =
-    let both = neither-true (test m) (some m test) e in
+    let both = neither-true (some m test) (test m) e in
     elim (ℕ-discrete i m) [
-      | yes z ↦ ap test z ∙ both .0
-      | no d ↦ some-each m test (both .1) i (omega arith)
+      | yes z ↦ ap test z ∙ both .1
+      | no d ↦ some-each m test (both .0) i (omega arith)
     ]
+
+-- with one number more, it is the same or that one passes;
+pub some-more : (m : ℕ) (test : ℕ → Bool) → some (m + 1) test ≡ (some m test || test m)
+unfolding some
+some-more m test = ap (λ (k : ℕ). some k test) (add-one m)
 
 -- where one passes, it is true.
 pub some-one : (m : ℕ) (test : ℕ → Bool) (i : ℕ) → i < m → test i ≡ true → some m test ≡ true
@@ -50,15 +56,12 @@ some-one m test i l e = go (some m test) refl
 pub range-most : (n p k : ℕ) → outOfRange n p k ≡ false → k ≤ 5 + n
 range-most n p k e = ltb-false (5 + n) k (neither-true (ltb (5 + n) k) (not (ltb k 5) && ltb k (5 + p)) e .0)
 
--- a number below 5 passes, one over 5 + n does not,
+-- a number below 5 passes,
 pub range-low : (n p k : ℕ) → k < 5 → outOfRange n p k ≡ false
 range-low n p k l = rw (le-ltb (5 + n) k (omega arith), lt-ltb k 5 l)
 
-pub range-high : (n p k : ℕ) → 5 + n < k → outOfRange n p k ≡ true
-range-high n p k l = rw (lt-ltb (5 + n) k l)
-
--- and for any other it counts whether its end is left of the position.
-pub range-end : (n p k : ℕ) → 5 ≤ k → k ≤ 5 + n → outOfRange n p k ≡ ltb (k - 5) p
+-- and for a greater one up to 5 + n it counts whether its end is left of the position.
+range-end : (n p k : ℕ) → 5 ≤ k → k ≤ 5 + n → outOfRange n p k ≡ ltb (k - 5) p
 range-end n p k l m = rw (le-ltb (5 + n) k m, le-ltb k 5 l) (by-test (ltb (k - 5) p) refl)
   where
     by-test : (b : Bool) → ltb (k - 5) p ≡ b → ltb k (5 + p) ≡ ltb (k - 5) p

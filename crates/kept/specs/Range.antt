@@ -13,7 +13,7 @@ outOfRange n p k = ltb (5 + n) k || (not (ltb k 5) && ltb k (5 + p))
 -- Some number below m passes the test.
 unfoldable pub some : ℕ → (ℕ → Bool) → Bool
 some zero test = false
-some (suc m) test = test m || some m test
+some (suc m) test = some m test || test m
 
 -- "19 a retained cell over 5 + n or a success ending left of its place": of v variables, at some position from 0 to n.
 unfoldable pub retainedOut : ℕ → ℕ → ℕ → List ℕ → Bool

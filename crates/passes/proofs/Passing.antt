@@ -1,8 +1,8 @@
 -- The passes, cell by cell and row by row. Assumes nothing.
-use mathlib.Core.Bool.{Bool, true, false, cond}
+use mathlib.Core.Bool.{Bool, true, false, cond, _||_}
 use mathlib.Core.List.{List}
 use mathlib.Core.Logic.{inl, inr}
-use mathlib.Core.Path.{_≡_, refl, sym, ap, _∙_, subst}
+use mathlib.Core.Path.{_≡_, refl, sym, ap, ap₂, _∙_, subst}
 use Prim.Native.Nat.{ℕ, suc, _+_, _-_, _*_, _≤_, _<_}
 use native.Mathlib.Decide.{ℕ-discrete}
 use native.Mathlib.Nat.{zero-mul, suc-mul, mul-le-mul-right}
@@ -19,7 +19,7 @@ use Rattle.schema.proofs.Cell.{cell-below}
 use Rattle.schema.proofs.Cells.{stored-there, stored-elsewhere, stored-later, stored-length}
 use Rattle.kept.specs.Kept.{retained}
 use Rattle.kept.specs.Range.{outOfRange, some, retainedOut}
-use Rattle.kept.proofs.Ranged.{some-none, some-one, range-low}
+use Rattle.kept.proofs.Ranged.{some-none, some-one, some-more, range-low}
 use Rattle.passes.specs.Passes.{rowOut, Blanks, Retains}
 
 -- ---- A row of cells.
@@ -49,36 +49,38 @@ blanked-in n c p k l = ap (λ (b : Bool). outOfRange n p (cond b k 0)) (le-ltb c
 retained-at : (n c p k : ℕ) → c < p → outOfRange n p (cond (ltb c p) k 0) ≡ outOfRange n p k
 retained-at n c p k l = ap (λ (b : Bool). outOfRange n p (cond b k 0)) (lt-ltb c p l)
 
--- Before a position of a row: no cell before it is out of range.
-pub record RowPassing (n c : ℕ) (T : List ℕ) (start position : ℕ) : Type 0 where
+-- Before a position of a row: whether a cell before it is out of range.
+pub record RowPassing (n c : ℕ) (T : List ℕ) (start : ℕ) (out : Bool) (position : ℕ) : Type 0 where
   pub above : c < position
   pub inside : position ≤ n + 1
-  pub each : (p : ℕ) → p < position → outOfRange n p (cond (ltb c p) (heldAt T (start + p)) 0) ≡ false
+  pub passed : out ≡ some position (λ p. outOfRange n p (cond (ltb c p) (heldAt T (start + p)) 0))
 
 module _ (n c : ℕ) (T : List ℕ) (start : ℕ) where
-  pub row-begins : c < n → RowPassing n c T start (c + 1)
-  row-begins l = record { above = omega arith; inside = omega arith; each = λ p m. blanked-in n c p (heldAt T (start + p)) (omega arith) }
+  abbrev test : ℕ → Bool
+  test p = outOfRange n p (cond (ltb c p) (heldAt T (start + p)) 0)
 
-  module _ {position : ℕ} (passing : RowPassing n c T start position) where
-    pub row-goes-on : position ≤ n → outOfRange n position (heldAt T (start + position)) ≡ false → RowPassing n c T start (position + 1)
+  pub row-begins : c < n → RowPassing n c T start false (c + 1)
+  row-begins l = record {
+    above = omega arith;
+    inside = omega arith;
+    passed = sym (some-none (c + 1) test (λ p m. blanked-in n c p (heldAt T (start + p)) (omega arith)));
+  }
+
+  module _ {out : Bool} {position : ℕ} (passing : RowPassing n c T start out position) where
+    pub row-goes-on : position ≤ n → {next : Bool} → next ≡ outOfRange n position (heldAt T (start + position)) → RowPassing n c T start (out || next) (position + 1)
     row-goes-on l e = record {
       above = omega (arith, passing .above);
       inside = omega arith;
-      each = λ p m. elim (ℕ-discrete p position) [
-        | yes z ↦
-            ap (λ (q : ℕ). outOfRange n q (cond (ltb c q) (heldAt T (start + q)) 0)) z
-            ∙ retained-at n c position (heldAt T (start + position)) (passing .above) ∙ e
-        | no d ↦ passing .each p (omega arith)
-      ];
+      passed =
+          ap₂ _||_ (passing .passed) (e ∙ sym (retained-at n c position (heldAt T (start + position)) (passing .above)))
+          ∙ sym (some-more position test);
     }
 
-    pub row-out : position ≤ n → outOfRange n position (heldAt T (start + position)) ≡ true → rowOut n c T start ≡ true
-    row-out l e =
-        some-one (n + 1) (λ p. outOfRange n p (cond (ltb c p) (heldAt T (start + p)) 0)) position (omega arith)
-        (retained-at n c position (heldAt T (start + position)) (passing .above) ∙ e)
-
-    pub row-in : n < position → rowOut n c T start ≡ false
-    row-in l = some-none (n + 1) (λ p. outOfRange n p (cond (ltb c p) (heldAt T (start + p)) 0)) (λ p m. passing .each p (omega arith))
+    pub row-ends : n < position → out ≡ rowOut n c T start
+    row-ends l =
+        let m = passing .inside in
+        let e : position ≡ n + 1 = omega arith in
+        passing .passed ∙ ap (λ (k : ℕ). some k test) e
 
 -- A row by its pairs: a retained cell of the variable after so many rows is out of range.
 abbrev variableOut : ℕ → ℕ → List ℕ → ℕ → Bool

@@ -6,18 +6,14 @@ ghost use Rattle.kept.specs.Range.{outOfRange, retainedOut};
 ghost use Rattle.passes.specs.Passes.{PassReady, rowOut, Blanks, Retains};
 use cells::Cell;
 
-// Is this number of a cell at a position over 5 + n, or that of a success ending left of it?
-fn out_of_range(cell: Cell, position: usize, n: usize) -> bool
+// Is this number of a cell at a position over 5 + n, or that of a success ending left of it? There is no branch, so that a row of cells is tested
+// several at once.
+fn out_of_range(cell: Cell, position: u32, n: u32) -> bool
+    requires { ⌜ (n ≤ 4096) × (position ≤ n) ⌝ }
     ensures { λ r. ⌜ r ≡ outOfRange n position (cell .0) ⌝ }
 {
-    if cell.0 < Cell::SUCCESS.0 {
-        return false;
-    }
-    let end = (cell.0 - Cell::SUCCESS.0) as usize;
-    if n < end {
-        return true;
-    }
-    end < position
+    let success = Cell::SUCCESS.0;
+    (success + n < cell.0) | (!(cell.0 < success) & (cell.0 < success + position))
 }
 
 // The same of some retained cell among those of one variable, which begin at a number.
@@ -25,14 +21,14 @@ fn row_out(table: &[u32], start: usize, n: usize, c: usize) -> bool
     requires { ⌜ (n ≤ 4096) × (c < n) × (start + n < length (now table)) ⌝ }
     ensures { λ r. ⌜ r ≡ rowOut n c (now (table .entry)) start ⌝ }
 {
+    let mut out = false;
     let mut position = c + 1;
     while position <= n {
-        if out_of_range(Cell::load(table, start + position), position, n) {
-            return true;
-        }
+        let cell = Cell::load(table, start + position);
+        out = out | out_of_range(cell, position as u32, n as u32);
         position += 1;
     }
-    false
+    out
 }
 
 // Refusal 19: is a retained cell of the table out of range?

@@ -7,22 +7,29 @@
 // The fields of a request: where its sheet starts in sheets.txt, the sheet's length, where its entry starts in entries, the entry's length,
 // the variable, the place, the task, and two numbers x and y.
 //
-//     task 0, question  a table of x numbers and a work slice of y numbers are lent
-//     task 1, machine   the budget is x, and a slice of y numbers is lent for the frames
-//     task 2, reading   a table and a work slice of x numbers and an output of y bytes are lent; what is written is then checked
-//     task 3, damage    a reading is written, its byte at x is made y, and it is checked
+//     task 0, question    a table of x numbers and a work slice of y numbers are lent
+//     task 1, machine     the budget is x, and a slice of y numbers is lent for the frames
+//     task 2, reading     a table and a work slice of x numbers and an output of y bytes are lent; what is written is then checked
+//     task 3, damage      a reading is written, its byte at x is made y, and it is checked
+//     task 4, kept        as task 0, and the entry and the table are kept
+//     task 5, correction  the byte at x of the kept entry is made y modulo 256, and the question is asked as a correction at x; y / 256
+//                         numbers of the kept table and a work slice of as many are lent
+//
+// What is kept lasts until the next task 4, so that corrections follow one another. A correction takes as many bytes of the kept entry as
+// the request's entry has; where x is not below that number, no byte is changed and the call is made all the same.
 //
 // An answer is a line of seven fields of 8 columns and byte 10. The first is the number of the request's line, the second is
 //
-//     0, question  code, named variable or refusal number, end or named place or refused line, count of cells, sum of the lent table
-//     1, machine   code, refusal number, end or refused line, moves, 0
-//     2, writer    code, named variable or refusal number, end or named place or refused line, lines, sum of the lent output
-//     3, checker   code, refusal number, end or refused line, lines, 0
-//     4, fault     the request's line is malformed or reaches out of its files or slices; the rest is 0
-//     5, end       the number of bytes read of sheets.txt, entries and questions.txt, and two zeros
+//     0, question    code, named variable or refusal number, end or named place or refused line, count of cells, sum of the lent table
+//     1, machine     code, refusal number, end or refused line, moves, 0
+//     2, writer      code, named variable or refusal number, end or named place or refused line, lines, sum of the lent output
+//     3, checker     code, refusal number, end or refused line, lines, 0
+//     4, fault       the request's line is malformed or reaches out of its files or slices; the rest is 0
+//     5, end         the number of bytes read of sheets.txt, entries and questions.txt, and two zeros
+//     6, correction  as for a question; the count is of newly decided cells
 //
-// The codes: 0 success, 1 failure, 2 loop, 3 missing, 4 end, 6 spent, 7 no frame, 9 refused. Table and output are filled before each call,
-// so that their sums also show what a call must leave unchanged.
+// The codes: 0 success, 1 failure, 2 loop, 3 missing, 4 end, 6 spent, 7 no frame, 9 refused. Table and output are filled before each call
+// but a correction, so that their sums also show what a call must leave unchanged.
 ghost use Prim.Native.Nat.{_<_, _≤_};
 ghost use Rattle.io.specs.Counts.{Counts};
 use backtrack::Ending;
@@ -303,8 +310,83 @@ fn run_damage(
     check(number, sheet, entry, r, out, lines);
 }
 
-// Runs a request on its sheet and its entry, over slices of its own.
-fn run(number: u32, sheet: &[u8], entry: &[u8], r: Request) {
+// Task 4.
+fn run_kept(
+    number: u32,
+    sheet: &[u8],
+    entry: &[u8],
+    r: Request,
+    kept_entry: &mut [u8],
+    kept_table: &mut [u32],
+    work: &mut [u32],
+) {
+    if kept_entry.len() < entry.len() {
+        return print_fault(number);
+    }
+    bytes::copy(entry, kept_entry);
+    run_question(number, sheet, entry, r, kept_table, work);
+}
+
+// Makes a byte of an entry another, where the entry reaches so far.
+fn set_byte(entry: &mut [u8], at: usize, byte: u8) {
+    if at < entry.len() {
+        entry[at] = byte;
+    }
+}
+
+// Task 5, with the lent slices.
+fn correct(
+    number: u32,
+    sheet: &[u8],
+    entry: &mut [u8],
+    r: Request,
+    table: &mut [u32],
+    work: &mut [u32],
+) {
+    set_byte(entry, r.x as usize, (r.y % 256) as u8);
+    let answer = correction::correct(sheet, entry, r.variable, r.position, r.x, table, work);
+    print_answer(number, 6, numbers_of_answer(answer), sum_of_numbers(table));
+}
+
+// Task 5, on an entry of this length.
+fn run_correction(
+    number: u32,
+    sheet: &[u8],
+    length: usize,
+    r: Request,
+    kept_entry: &mut [u8],
+    kept_table: &mut [u32],
+    work: &mut [u32],
+) {
+    let lent = (r.y / 256) as usize;
+    if kept_entry.len() < length {
+        return print_fault(number);
+    }
+    if kept_table.len() < lent {
+        return print_fault(number);
+    }
+    if work.len() < lent {
+        return print_fault(number);
+    }
+    correct(
+        number,
+        sheet,
+        &mut kept_entry[0..length],
+        r,
+        &mut kept_table[0..lent],
+        &mut work[0..lent],
+    );
+}
+
+// Runs a request on its sheet and its entry, over slices of its own and what is kept.
+fn run(
+    number: u32,
+    sheet: &[u8],
+    entry: &[u8],
+    r: Request,
+    kept_entry: &mut [u8],
+    kept_table: &mut [u32],
+) {
     let mut table = [0u32; 65536];
     let mut work = [0u32; 65536];
     let mut out = [0u8; 262144];
@@ -315,6 +397,16 @@ fn run(number: u32, sheet: &[u8], entry: &[u8], r: Request) {
         1 => run_machine(number, sheet, entry, r, &mut work),
         2 => run_reading(number, sheet, entry, r, &mut table, &mut work, &mut out),
         3 => run_damage(number, sheet, entry, r, &mut table, &mut work, &mut out),
+        4 => run_kept(number, sheet, entry, r, kept_entry, kept_table, &mut work),
+        5 => run_correction(
+            number,
+            sheet,
+            entry.len(),
+            r,
+            kept_entry,
+            kept_table,
+            &mut work,
+        ),
         _ => print_fault(number),
     }
 }
@@ -341,7 +433,14 @@ fn size(x: u32) -> usize {
 }
 
 // Takes the entry of a request, and runs it.
-fn run_on_sheet(number: u32, sheet: &[u8], entries: &[u8], numbers: &[u32; 9]) {
+fn run_on_sheet(
+    number: u32,
+    sheet: &[u8],
+    entries: &[u8],
+    numbers: &[u32; 9],
+    kept_entry: &mut [u8],
+    kept_table: &mut [u32],
+) {
     let start = size(numbers[2]);
     let length = size(numbers[3]);
     if entries.len() < length {
@@ -358,11 +457,25 @@ fn run_on_sheet(number: u32, sheet: &[u8], entries: &[u8], numbers: &[u32; 9]) {
         x: numbers[7],
         y: numbers[8],
     };
-    run(number, sheet, &entries[start..end], r);
+    run(
+        number,
+        sheet,
+        &entries[start..end],
+        r,
+        kept_entry,
+        kept_table,
+    );
 }
 
 // Takes the sheet of a request, and runs it.
-fn run_numbers(number: u32, sheets: &[u8], entries: &[u8], numbers: &[u32; 9]) {
+fn run_numbers(
+    number: u32,
+    sheets: &[u8],
+    entries: &[u8],
+    numbers: &[u32; 9],
+    kept_entry: &mut [u8],
+    kept_table: &mut [u32],
+) {
     let start = size(numbers[0]);
     let length = size(numbers[1]);
     if sheets.len() < length {
@@ -372,16 +485,30 @@ fn run_numbers(number: u32, sheets: &[u8], entries: &[u8], numbers: &[u32; 9]) {
         return print_fault(number);
     }
     let end = start + length;
-    run_on_sheet(number, &sheets[start..end], entries, numbers);
+    run_on_sheet(
+        number,
+        &sheets[start..end],
+        entries,
+        numbers,
+        kept_entry,
+        kept_table,
+    );
 }
 
 // Runs the request of a line.
-fn run_line(number: u32, line: &[u8], sheets: &[u8], entries: &[u8]) {
+fn run_line(
+    number: u32,
+    line: &[u8],
+    sheets: &[u8],
+    entries: &[u8],
+    kept_entry: &mut [u8],
+    kept_table: &mut [u32],
+) {
     let mut numbers = [0u32; 9];
     if !read_numbers(line, &mut numbers) {
         return print_fault(number);
     }
-    run_numbers(number, sheets, entries, &numbers);
+    run_numbers(number, sheets, entries, &numbers, kept_entry, kept_table);
 }
 
 // The end of the line that starts at a position: 73 bytes further, or the text's end.
@@ -395,14 +522,23 @@ fn line_end(start: usize, length: usize) -> usize
     start + 73
 }
 
-// Runs the request of each line.
+// Runs the request of each line. A kept entry may be one byte too long for the calls.
 fn run_lines(questions: &[u8], sheets: &[u8], entries: &[u8]) {
+    let mut kept_entry = [0u8; 4097];
+    let mut kept_table = [0u32; 65536];
     let mut number: u32 = 0;
     let mut at: usize = 0;
     while at < questions.len() {
         let end = line_end(at, questions.len());
         number = number % 99999999 + 1;
-        run_line(number, &questions[at..end], sheets, entries);
+        run_line(
+            number,
+            &questions[at..end],
+            sheets,
+            entries,
+            &mut kept_entry,
+            &mut kept_table,
+        );
         at = end;
     }
 }

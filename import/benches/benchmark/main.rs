@@ -1,7 +1,9 @@
 //! Benchmarks of the proved calls beside Rust twins, LPeg and leg: `cargo bench --manifest-path import/Cargo.toml`.
 //!
 //! It prints the tables of docs/BENCHMARKS.md. valgrind, lua5.4, lua-lpeg and peg are Debian's packages; where valgrind is absent, its columns stay
-//! empty. With `--calls SUBJECT COUNT` it only makes the calls of one subject, which is what valgrind counts.
+//! empty. With `--calls SUBJECT COUNT` it only makes the calls of one subject, which is what valgrind counts; with `--corrections` it prints the table of
+//! corrections only.
+mod correction;
 mod fastest;
 mod machine;
 mod peers;
@@ -551,11 +553,15 @@ fn main() {
             arguments[at + 2].parse().expect("a number"),
         );
     }
+    if arguments.iter().any(|word| word == "--corrections") {
+        return correction::table();
+    }
     question_table();
     society_table();
     parts_table();
     import_table();
     growth_table();
+    correction::table();
     println!("\n## Machine, writer and checker, millions a second\n");
     println!("| | proved | twin | time, of the twin's |");
     println!("|---|---|---|---|");

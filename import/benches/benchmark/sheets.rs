@@ -55,6 +55,17 @@ pub fn letters(n: usize) -> Question {
     }
 }
 
+/// The same without the rule that has no use: the narrowest table.
+pub fn run(n: usize) -> Question {
+    let mut entry = vec![b'a'; n];
+    entry[n - 1] = b'b';
+    Question {
+        name: "letters, V = 3",
+        sheet: sheet(&[[4, 2, 1, 3], [2, 97, 0, 0], [0; 4]]),
+        entry,
+    }
+}
+
 /// Brackets one in another: 1 = "(" 1 ")" 1, or nothing.
 pub fn brackets(n: usize) -> Question {
     let mut entry: Vec<u8> = (0..n)

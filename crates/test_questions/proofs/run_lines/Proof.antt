@@ -1,3 +1,4 @@
+use mathlib.Core.Path.{_≡_}
 use Prim.Native.Nat.{_≤_, _-_}
 use lib.ListN.{length}
 use borrow.Author.Needs.{needs}
@@ -5,10 +6,11 @@ use Rattle.test_questions.proofs.run_lines.Statement.{statement}
 use Rattle.test_questions.proofs.run_lines.Tie as tie
 
 abbrev Inv-loop : tie.InvT-loop
-Inv-loop questions sheets entries number₀ at₀ number at = at ≤ length questions
+Inv-loop questions sheets entries kept-entry₀ kept-table₀ number₀ at₀ kept-entry kept-table number at =
+    (at ≤ length questions) × ((length kept-entry ≡ 4097) × (length kept-table ≡ 65536))
 
 abbrev μ-loop : tie.MeasureT-loop
-μ-loop questions sheets entries number₀ at₀ number at = length questions - at
+μ-loop questions sheets entries kept-entry₀ kept-table₀ number₀ at₀ kept-entry kept-table number at = length questions - at
 
 loop-holds : tie.Need-loop-holds Inv-loop μ-loop
 loop-holds c = search needs
@@ -27,6 +29,12 @@ part-run-line-start c = search needs
 
 part-run-line-end : tie.Need-part-run-line-end Inv-loop μ-loop
 part-run-line-end c = search needs
+
+slice-aggregate-run-line : tie.Need-slice-aggregate-run-line Inv-loop μ-loop
+slice-aggregate-run-line c = search needs
+
+slice-aggregate-run-line-2 : tie.Need-slice-aggregate-run-line-2 Inv-loop μ-loop
+slice-aggregate-run-line-2 c = search needs
 
 run-line-requires : tie.Need-run-line-requires Inv-loop μ-loop
 run-line-requires c κs = search needs
@@ -52,6 +60,8 @@ run-lines-spec =
     sub-run-line
     part-run-line-start
     part-run-line-end
+    slice-aggregate-run-line
+    slice-aggregate-run-line-2
     run-line-requires
     loop-less
     loop-again
