@@ -10,12 +10,12 @@ use borrow.Author.Tests.{lt-ltb}
 use Rattle.grammar.specs.Refusal.{Checked, refused, accepted}
 use Rattle.grammar.specs.Rule.{Rule}
 use Rattle.grammar.specs.Sheet.{Grammar, sheet}
-use Rattle.schema.specs.Derivation.{_at_, Outcome, Has}
+use Rattle.schema.specs.Derivation.{Pair, _at_, Outcome, Has}
 use Rattle.schema.specs.Handed.{Handed, handed, questionOf}
-use Rattle.schema.specs.Reached.{Reached}
+use Rattle.schema.specs.Reached.{Reached, Named}
 use Rattle.schema.specs.Table.{Within, cells, held, Holds}
 use Rattle.schema.proofs.Handed.{handed-sheet, handed-pair, handed-slices}
-use Rattle.schema.proofs.Laws.{has-one}
+use Rattle.schema.proofs.Laws.{has-one, named-one, number-one}
 use Rattle.schema.proofs.SheetClosed.{sheet-closed}
 use Rattle.schema.proofs.Small.{refusal-small}
 use Rattle.finish.specs.Reply.{Reply, reply, outcomeOf, told}
@@ -23,6 +23,7 @@ use Rattle.finish.specs.declared.Answer.{Answer}
 use Rattle.memo.specs.Answer.{Answers, QuestionPromise}
 use Rattle.memo.proofs.Promised.{question-answers}
 use Rattle.memo.proofs.Result.{count-is, answer-is}
+use Rattle.memo.proofs.TableOne.{table-one}
 use Rattle.kept.specs.Differs.{DiffersAt}
 use Rattle.kept.specs.Kept.{retained, KeptTable, asked, corrected}
 use Rattle.kept.specs.Range.{retainedOut}
@@ -46,6 +47,23 @@ question-kept s input A p table table′ work work′ r promise g accepts =
     (question-answers s input A p table work g accepts table′ work′ r promise .2)
 
 -- "or by this call on a table so left" (`kept-again`).
+
+-- ---- One answer and one table.
+
+module _ {rule : ℕ → Rule} {v : ℕ} {input : List ℕ} {x : Pair} {start : Pair → ℕ} {table table′ table″ : List ℕ} {a b : Reply}
+    (one : Corrects rule v input x start table table′ a) (other : Corrects rule v input x start table table″ b) where
+  pub one-answer : a ≡ b
+  one-answer =
+      let o : one .outcome ≡ other .outcome = has-one rule input x (one .outcome) (other .outcome) (one .has) (other .has) in
+      let z : one .named ≡ other .named =
+      named-one rule input x (one .named) (other .named) (other .outcome) (subst (λ (u : Outcome). Named rule input x u (one .named)) o (one .names)) (other .names) in
+      let n : one .count ≡ other .count = number-one (one .counts) (other .counts) in
+      let e = one .says in
+      let f = other .says in
+      cc
+
+  pub one-table : table′ ≡ table″
+  one-table = table-one (one .leaves) (other .leaves) (one .leaves .later ∙ sym (other .leaves .later)) (one .leaves .size ∙ sym (other .leaves .size))
 
 module _ (s input : List ℕ) (A p c : ℕ) (table work : List ℕ) where
   abbrev question : Handed

@@ -1,4 +1,4 @@
--- The table that a question leaves is one. Assumes nothing.
+-- The table that a question leaves is one, whatever the cells hold at its start. Assumes nothing.
 use mathlib.Core.Path.{_≡_, refl, sym, ap, _∙_}
 use mathlib.Core.Bool.{Bool, true, false}
 use mathlib.Core.List.{List}
@@ -13,11 +13,11 @@ use Rattle.grammar.specs.Rule.{Rule}
 use Rattle.schema.specs.Cells.{heldAt}
 use Rattle.schema.specs.Derivation.{Pair}
 use Rattle.schema.specs.Reached.{Reached}
-use Rattle.schema.specs.Table.{cells, code, held, blanked, Table}
+use Rattle.schema.specs.Table.{cells, code, held, Table}
 use Rattle.schema.proofs.Cell.{pairOf, cell-pair, pair-within}
 use Rattle.schema.proofs.Laws.{has-one}
 
-module _ {rule : ℕ → Rule} {s : List ℕ} {v : ℕ} {x : Pair} {O P T U : List ℕ} (t : Table rule s v x blanked O T) (u : Table rule s v x blanked P U) where
+module _ {rule : ℕ → Rule} {s : List ℕ} {v : ℕ} {x : Pair} {start : Pair → ℕ} {O P T U : List ℕ} (t : Table rule s v x start O T) (u : Table rule s v x start P U) where
   reached-same : (y : Pair) → Reached rule s x y → held (length s) T y ≡ held (length s) U y
   reached-same y k =
       let a = t .holds y k in
@@ -28,8 +28,8 @@ module _ {rule : ℕ → Rule} {s : List ℕ} {v : ℕ} {x : Pair} {O P T U : Li
   within-same i l =
       let y = pairOf (length s) i in
       let w = pair-within v (length s) i l in
-      elim (ℕ-discrete (held (length s) T y) 0) [
-        | yes e ↦ elim (ℕ-discrete (held (length s) U y) 0) [
+      elim (ℕ-discrete (held (length s) T y) (start y)) [
+        | yes e ↦ elim (ℕ-discrete (held (length s) U y) (start y)) [
           | yes f ↦ e ∙ sym f
           | no d ↦ reached-same y (u .others _ _ w d)
         ]
