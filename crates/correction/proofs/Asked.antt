@@ -19,13 +19,14 @@ use Rattle.schema.specs.Handed.{handed, questionOf}
 use Rattle.schema.specs.Table.{cells}
 use Rattle.schema.proofs.Tested.{question-follows}
 use Rattle.finish.specs.Reply.{Reply}
+use Rattle.walk.specs.Over.{OverReady, Over}
 use Rattle.memo.proofs.Questioned.{read, follows, tested-is, ask-ready}
 use Rattle.kept.specs.Range.{retainedOut}
-use Rattle.passes.specs.Passes.{PassReady}
+use Rattle.passes.specs.Passes.{PassReady, Retains, RetainsUnless}
 use Rattle.correction.specs.Correction.{Correction, Replies}
-use Rattle.correction.specs.Ready.{CorrectionReady}
 use Rattle.correction.specs.Refusals.{correctable}
 use Rattle.correction.proofs.CorrectionRefusals.{refused-before, then-tested}
+use Rattle.correction.proofs.Corrected.{CorrectionReady, may-ask, corrects}
 
 module _ {s input : List ℕ} {A p : ℕ} {before after : List ℕ} {r : Sheet} (admission : Admission s input A p before after r) (c : ℕ) (table work : List ℕ) where
   -- A refusal, with both slices as they were.
@@ -61,32 +62,39 @@ module _ {s input : List ℕ} {A p : ℕ} {before after : List ℕ} {r : Sheet} 
       refused-position h t k m = refused-as (then-tested s input (A at p) c table (length work) (admitted .grammar) accepts ∙ rw (le-ltb c (length input) h)) t k m
 
       module _ (below : c < length input) where
-        by-range : {out : Bool} → out ≡ retainedOut (l .variables) (length input) c table → retainedOut (admitted .grammar .variables) (length input) c table ≡ out
-        by-range h = ap (λ (v : ℕ). retainedOut v (length input) c table) (admitted .variables-are) ∙ sym h
-
         -- What the passes are handed.
         pub may-pass : PassReady (l .variables) (length input) c table
         may-pass =
             let a = ask-ready admission table work e tested enough in
             record { few = a .few; short = a .short; below = below; room = a .room }
 
-        -- for a retained cell out of range.
-        pub refused-range : {out : Bool} {table′ work′ : List ℕ} {t : Checked Reply} → out ≡ retainedOut (l .variables) (length input) c table → out ≡ true
-            → t ≡ refused 19 0 → table′ ≡ table → work′ ≡ work
-            → Replies (correctable s input (A at p) c table (length work)) input (A at p) c table table′ work work′ t
-        refused-range out is t k m =
-            refused-as (then-tested s input (A at p) c table (length work) (admitted .grammar) accepts ∙ rw (lt-ltb c (length input) below, by-range out, is)) t k m
+        module _ {out : Bool} (refuses : out ≡ retainedOut (l .variables) (length input) c table) where
+          range-is : retainedOut (admitted .grammar .variables) (length input) c table ≡ out
+          range-is = ap (λ (v : ℕ). retainedOut v (length input) c table) (admitted .variables-are) ∙ sym refuses
 
-        -- What is then asked is handed,
-        pub ready : {out : Bool} → out ≡ retainedOut (l .variables) (length input) c table → out ≡ false
-            → CorrectionReady (ruleIn after) input (l .variables) A p c table work
-        ready out is = record { ask = ask-ready admission table work e tested enough; below = below; in-range = sym out ∙ is }
+          -- for a retained cell out of range.
+          pub refused-range : (table′ : List ℕ) {work′ : List ℕ} {t : Checked Reply} → out ≡ true → t ≡ refused 19 0
+              → RetainsUnless out (l .variables) (length input) c table table′ → work′ ≡ work
+              → Replies (correctable s input (A at p) c table (length work)) input (A at p) c table table′ work work′ t
+          refused-range table′ is t k m =
+              refused-as (then-tested s input (A at p) c table (length work) (admitted .grammar) accepts ∙ rw (lt-ltb c (length input) below, range-is, is)) t
+              (subst (λ (b : Bool). RetainsUnless b (l .variables) (length input) c table table′) is k) m
 
-        -- and the answer is the correction's.
-        pub replies : {out : Bool} {table′ work′ : List ℕ} {t : Checked Reply} → out ≡ retainedOut (l .variables) (length input) c table → out ≡ false
-            → Correction (ruleIn after) (l .variables) input (A at p) c table table′ work work′ t
-            → Replies (correctable s input (A at p) c table (length work)) input (A at p) c table table′ work work′ t
-        replies {table′ = table′} {work′ = work′} {t = t} out is a =
-            rw (then-tested s input (A at p) c table (length work) (admitted .grammar) accepts, lt-ltb c (length input) below, by-range out, is)
-            (subst (λ (n : ℕ). Correction (admitted .grammar .rule) n input (A at p) c table table′ work work′ t) (sym (admitted .variables-are))
-            (subst (λ (f : ℕ → Rule). Correction f (l .variables) input (A at p) c table table′ work work′ t) (admitted .rules-are) a))
+          module _ (is : out ≡ false) (table₁ : List ℕ) (retains : RetainsUnless out (l .variables) (length input) c table table₁) where
+            ready : CorrectionReady (ruleIn after) input (l .variables) A p c table work
+            ready = record { ask = ask-ready admission table work e tested enough; in-range = sym refuses ∙ is }
+
+            blanks : Retains (l .variables) (length input) c table table₁
+            blanks = subst (λ (b : Bool). RetainsUnless b (l .variables) (length input) c table table₁) is retains
+
+            -- What is then asked is handed,
+            pub asks : OverReady (ruleIn after) input (l .variables) A p table₁ work
+            asks = may-ask ready blanks
+
+            -- and the answer is the correction's.
+            pub replies : {table′ work′ : List ℕ} {t : Checked Reply} → Over (ruleIn after) (l .variables) input (A at p) table₁ table′ work work′ t
+                → Replies (correctable s input (A at p) c table (length work)) input (A at p) c table table′ work work′ t
+            replies {table′} {work′} {t} a =
+                rw (then-tested s input (A at p) c table (length work) (admitted .grammar) accepts, lt-ltb c (length input) below, range-is, is)
+                (subst (λ (n : ℕ). Correction (admitted .grammar .rule) n input (A at p) c table table′ work work′ t) (sym (admitted .variables-are))
+                (subst (λ (f : ℕ → Rule). Correction f (l .variables) input (A at p) c table table′ work work′ t) (admitted .rules-are) (corrects ready blanks t a)))

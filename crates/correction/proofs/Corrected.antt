@@ -1,4 +1,5 @@
 -- A correction is blanking and then asking over the table: its promise, from the promises of the two. Assumes nothing.
+use mathlib.Core.Bool.{false}
 use mathlib.Core.List.{List}
 use mathlib.Core.Logic.{_≢_, _↔_}
 use mathlib.Core.Path.{_≡_, sym, _∙_, subst}
@@ -16,17 +17,23 @@ use Rattle.schema.proofs.Cell.{pairOf, PairWithin, held-pair, pair-within}
 use Rattle.finish.specs.Reply.{Reply}
 use Rattle.walk.specs.Over.{OverReady, Over}
 use Rattle.walk.specs.Walk.{RightTable}
+use Rattle.memo.specs.Ask.{AskReady}
 use Rattle.memo.proofs.Result.{decided-count}
 use Rattle.kept.specs.Differs.{DiffersAt}
 use Rattle.kept.specs.Kept.{retained, KeptTable}
 use Rattle.kept.specs.New.{New}
+use Rattle.kept.specs.Range.{retainedOut}
 use Rattle.kept.proofs.Filled.{new-more}
 use Rattle.kept.proofs.Ranged.{range-most, each-in}
 use Rattle.kept.proofs.RightCells.{right-same, retain-right, kept-right}
-use Rattle.passes.specs.Passes.{PassReady, Retains}
+use Rattle.passes.specs.Passes.{Retains}
 use Rattle.correction.specs.Correction.{Correction}
-use Rattle.correction.specs.Ready.{CorrectionReady}
 use Rattle.correction.proofs.KeptRight.{right-table}
+
+-- What is at hand once the refusals are tested: what asking is handed, and no retained cell out of range.
+pub record CorrectionReady (rule : ℕ → Rule) (s : List ℕ) (v A p c : ℕ) (T W : List ℕ) : Type 0 where
+  pub ask : AskReady rule s v A p T W
+  pub in-range : retainedOut v (length s) c T ≡ false
 
 module _ {rule : ℕ → Rule} {s : List ℕ} {v A p c : ℕ} {T W : List ℕ} (r : CorrectionReady rule s v A p c T W) where
   abbrev n : ℕ
@@ -34,10 +41,6 @@ module _ {rule : ℕ → Rule} {s : List ℕ} {v A p c : ℕ} {T W : List ℕ} (
 
   abbrev N : ℕ
   N = cells v (length s)
-
-  -- What the passes are handed.
-  pub may-pass : PassReady v (length s) c T
-  may-pass = record { few = r .ask .few; short = r .ask .short; below = r .below; room = r .ask .room }
 
   module _ {T₁ : List ℕ} (blanks : Retains v (length s) c T T₁) where
     -- The blanked table holds what is retained.

@@ -1,4 +1,3 @@
 -- One byte corrected: the refusals and the promise of the call.
 pub mod Refusals
 pub mod Correction
-pub mod Ready

@@ -1,35 +1,12 @@
 // A question about an entry of which one byte was corrected, over the table that was kept of it.
-ghost use Rattle.grammar.specs.Words.{ruleIn};
-ghost use Rattle.schema.specs.Derivation.{_at_};
-ghost use Rattle.finish.specs.Reply.{told};
-ghost use Rattle.correction.specs.Correction.{Correction, CorrectionPromise};
-ghost use Rattle.correction.specs.Ready.{CorrectionReady};
+ghost use Rattle.correction.specs.Correction.{CorrectionPromise};
 use finish::Answer;
 use grammar::sheet::Rules;
 use grammar::sheet::Sheet;
 use memo::too_small;
-use passes::blank_to;
-use passes::retained_out;
+use passes::retain;
 use rules::admit;
 use walk::ask_over;
-
-// Asks about a pair, the cells at positions up to c blanked first.
-fn ask_corrected(
-    rules: &Rules,
-    input: &[u8],
-    variables: u32,
-    variable: u32,
-    position: u32,
-    c: u32,
-    table: &mut [u32],
-    work: &mut [u32],
-) -> Answer
-    requires { ⌜ CorrectionReady (ruleIn (now rules)) (now input) variables variable position c (now table) (now work) ⌝ }
-    ensures { λ r. ⌜ Correction (ruleIn (now (rules .entry))) variables (now (input .entry)) (variable at position) c (now (table .entry)) (now (table .exit)) (now (work .entry)) (now (work .exit)) (told r) ⌝ }
-{
-    blank_to(table, variables, input.len(), c as usize);
-    ask_over(rules, input, variables, variable, position, table, work)
-}
 
 // A question about a variable at a position of the input, of which the byte at c was corrected, over a table of the input before that. The count
 // is of newly decided cells.
@@ -56,10 +33,10 @@ pub fn correct(
             if input.len() <= c as usize {
                 return Answer::Refused(18, 0);
             }
-            if retained_out(table, variables, input.len(), c as usize) {
+            if retain(table, variables, input.len(), c as usize) {
                 return Answer::Refused(19, 0);
             }
-            ask_corrected(&rules, input, variables, variable, position, c, table, work)
+            ask_over(&rules, input, variables, variable, position, table, work)
         }
     }
 }

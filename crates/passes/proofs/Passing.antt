@@ -1,5 +1,5 @@
 -- The passes, cell by cell and row by row. Assumes nothing.
-use mathlib.Core.Bool.{Bool, true, false, cond, _||_}
+use mathlib.Core.Bool.{Bool, true, false, cond, not, _||_, true≢false}
 use mathlib.Core.List.{List}
 use mathlib.Core.Logic.{inl, inr}
 use mathlib.Core.Path.{_≡_, refl, sym, ap, ap₂, _∙_, subst}
@@ -20,7 +20,7 @@ use Rattle.schema.proofs.Cells.{stored-there, stored-elsewhere, stored-later, s
 use Rattle.kept.specs.Kept.{retained}
 use Rattle.kept.specs.Range.{outOfRange, some, retainedOut}
 use Rattle.kept.proofs.Ranged.{some-none, some-one, some-more, range-low}
-use Rattle.passes.specs.Passes.{rowOut, Blanks, Retains}
+use Rattle.passes.specs.Passes.{rowOut, Blanks, Retains, RetainsUnless}
 
 -- ---- A row of cells.
 
@@ -200,3 +200,13 @@ blanking-ends {v} {n} {c} {row} {start} {T₀} {T} l b =
     let m = b .inside in
     let e : row ≡ v = omega arith in
     subst (λ (k : ℕ). Retains k n c T₀ T) e (b .retains)
+
+-- ---- Both passes: the cells are retained, or the table is left whole.
+
+pub unless-out : (out : Bool) (v n c : ℕ) (T T′ : List ℕ) → not out ≡ true → Retains v n c T T′ → RetainsUnless out v n c T T′
+unless-out true v n c T T′ e r = absurd (true≢false (sym e))
+unless-out false v n c T T′ e r = r
+
+pub where-out : (out : Bool) (v n c : ℕ) (T : List ℕ) → not out ≡ false → RetainsUnless out v n c T T
+where-out true v n c T e = refl
+where-out false v n c T e = absurd (true≢false e)

@@ -1,5 +1,5 @@
 -- The passes of a correction over a table: what they ask, and what they promise. Assumes nothing.
-use mathlib.Core.Bool.{Bool, cond}
+use mathlib.Core.Bool.{Bool, true, false, cond}
 use mathlib.Core.List.{List}
 use mathlib.Core.Logic.{_⊎_}
 use mathlib.Core.Path.{_≡_}
@@ -35,3 +35,8 @@ pub record Retains (v n c : ℕ) (T T′ : List ℕ) : Type 0 where
   pub holds : (A p : ℕ) → Within v n A p → held n T′ (A at p) ≡ retained c n T (A at p)
   pub later : drop (cells v n) T′ ≡ drop (cells v n) T
   pub size : length T′ ≡ length T
+
+-- A table with a retained cell out of range stays as it was.
+abbrev pub RetainsUnless : Bool → ℕ → ℕ → ℕ → List ℕ → List ℕ → Type 0
+RetainsUnless true v n c T T′ = T′ ≡ T
+RetainsUnless false v n c T T′ = Retains v n c T T′

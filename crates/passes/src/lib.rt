@@ -1,9 +1,10 @@
-// The two passes of a correction over a table, row by row: whether a retained cell is out of range, and blanking up to a position.
+// What a correction does to the cells of a table before it asks, in two passes, row by row: whether a retained cell is out of range, and blanking up
+// to a position.
 ghost use mathlib.Core.Path.{_≡_};
 ghost use Prim.Native.Nat.{_+_, _≤_, _<_};
 ghost use lib.ListN.{length};
 ghost use Rattle.kept.specs.Range.{outOfRange, retainedOut};
-ghost use Rattle.passes.specs.Passes.{PassReady, rowOut, Blanks, Retains};
+ghost use Rattle.passes.specs.Passes.{PassReady, rowOut, Blanks, Retains, RetainsUnless};
 use cells::Cell;
 
 // Is this number of a cell at a position over 5 + n, or that of a success ending left of it? There is no branch, so that a row of cells is tested
@@ -32,7 +33,7 @@ fn row_out(table: &[u32], start: usize, n: usize, c: usize) -> bool
 }
 
 // Refusal 19: is a retained cell of the table out of range?
-pub fn retained_out(table: &[u32], variables: u32, n: usize, c: usize) -> bool
+fn retained_out(table: &[u32], variables: u32, n: usize, c: usize) -> bool
     requires { ⌜ PassReady variables n c (now table) ⌝ }
     ensures { λ r. ⌜ r ≡ retainedOut variables n c (now (table .entry)) ⌝ }
 {
@@ -60,8 +61,8 @@ fn blank_between(table: &mut [u32], first: usize, end: usize)
     }
 }
 
-// Blanks the cells at positions up to c, and retains the others.
-pub fn blank_to(table: &mut [u32], variables: u32, n: usize, c: usize)
+// Blanks the cells at positions up to c, and leaves the others.
+fn blank_to(table: &mut [u32], variables: u32, n: usize, c: usize)
     requires { ⌜ PassReady variables n c (now table) ⌝ }
     ensures { λ _. ⌜ Retains variables n c (now (table .entry)) (now (table .exit)) ⌝ }
 {
@@ -72,4 +73,17 @@ pub fn blank_to(table: &mut [u32], variables: u32, n: usize, c: usize)
         start += n + 1;
         blanked += 1;
     }
+}
+
+// Retains the cells at positions above c and blanks the others; or says that a retained one is out of range, and leaves the table as it was.
+pub fn retain(table: &mut [u32], variables: u32, n: usize, c: usize) -> bool
+    requires { ⌜ PassReady variables n c (now table) ⌝ }
+    ensures refuses { λ r. ⌜ r ≡ retainedOut variables n c (now (table .entry)) ⌝ }
+    ensures retains { λ r. ⌜ RetainsUnless r variables n c (now (table .entry)) (now (table .exit)) ⌝ }
+{
+    let out = retained_out(table, variables, n, c);
+    if !out {
+        blank_to(table, variables, n, c);
+    }
+    out
 }

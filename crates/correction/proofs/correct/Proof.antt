@@ -1,4 +1,4 @@
-use Rattle.correction.proofs.Asked.{refused-first, refused-small, refused-position, may-pass, refused-range, ready, replies}
+use Rattle.correction.proofs.Asked.{refused-first, refused-small, refused-position, may-pass, refused-range, asks, replies}
 use Rattle.memo.proofs.Questioned.{in-bounds}
 use mathlib.Core.Path.{refl}
 use Prim.Native.Nat.{_≤_}
@@ -33,8 +33,8 @@ returns-2 c =
     let l : length (a .input .now) ≤ a .c = omega arith in
     refused-position (c .before .before .before .before .before .before .admit .ensures) (a .c) (a .table .now) (a .work .now) (c .before .before .before .before .read2 .given .1) (c .before .before .too-small .ensures) (c .before .if1 .left) l refl refl refl
 
-retained-out-requires : tie.Need-retained-out-requires
-retained-out-requires c κs =
+retain-requires : tie.Need-retain-requires
+retain-requires c κs =
     let a = c .before .before .before .before .before .before .before .before .before .before .before .before .before .args in
     may-pass (c .before .before .before .before .before .before .before .admit .ensures) (a .c) (a .table .now) (a .work .now) (c .before .before .before .before .before .read2 .given .1) (c .before .before .before .too-small .ensures) (c .before .before .if1 .left) (c .before .if2 .left)
 
@@ -43,13 +43,15 @@ same-length c = search needs
 
 returns-3 : tie.Need-returns-3
 returns-3 c =
-    let a = c .before .before .before .before .before .before .before .before .before .before .before .before .before .before .before .args in
-    refused-range (c .before .before .before .before .before .before .before .before .before .admit .ensures) (a .c) (a .table .now) (a .work .now) (c .before .before .before .before .before .before .before .read2 .given .1) (c .before .before .before .before .before .too-small .ensures) (c .before .before .before .before .if1 .left) (c .before .before .before .if2 .left) (c .before .retained-out .ensures) (c .if3 .taken) refl refl refl
+    let a = c .before .before .before .before .before .before .before .before .before .before .before .before .before .before .before .before .before .args in
+    let r = c .before .before .before .retain in
+    refused-range (c .before .before .before .before .before .before .before .before .before .before .before .admit .ensures) (a .c) (a .table .now) (a .work .now) (c .before .before .before .before .before .before .before .before .before .read2 .given .1) (c .before .before .before .before .before .before .before .too-small .ensures) (c .before .before .before .before .before .before .if1 .left) (c .before .before .before .before .before .if2 .left) (r .ensures .0) (r .last .0) (c .if3 .taken) refl (r .ensures .1) refl
 
-ask-corrected-requires : tie.Need-ask-corrected-requires
-ask-corrected-requires c κs =
-    let a = c .before .before .before .before .before .before .before .before .before .before .before .before .before .before .before .before .before .before .args in
-    ready (c .before .before .before .before .before .before .before .before .before .before .before .before .admit .ensures) (a .c) (a .table .now) (a .work .now) (c .before .before .before .before .before .before .before .before .before .before .read2 .given .1) (c .before .before .before .before .before .before .before .before .too-small .ensures) (c .before .before .before .before .before .before .before .if1 .left) (c .before .before .before .before .before .before .if2 .left) (c .before .before .before .before .retained-out .ensures) (c .before .before .before .if3 .left)
+ask-over-requires : tie.Need-ask-over-requires
+ask-over-requires c κs =
+    let a = c .before .before .before .before .before .before .before .before .before .before .before .before .before .before .before .before .before .before .before .before .args in
+    let r = c .before .before .before .before .before .before .retain in
+    asks (c .before .before .before .before .before .before .before .before .before .before .before .before .before .before .admit .ensures) (a .c) (a .table .now) (a .work .now) (c .before .before .before .before .before .before .before .before .before .before .before .before .read2 .given .1) (c .before .before .before .before .before .before .before .before .before .before .too-small .ensures) (c .before .before .before .before .before .before .before .before .before .if1 .left) (c .before .before .before .before .before .before .before .before .if2 .left) (r .ensures .0) (c .before .before .before .if3 .left) (r .last .0) (r .ensures .1)
 
 returns-4 : tie.Need-returns-4
 returns-4 c =
@@ -57,15 +59,16 @@ returns-4 c =
     refused-first (c .before .before .before .admit .ensures) (a .c) (a .table .now) (a .work .now) (c .before .read .given .1) refl refl refl
 
 same-length-2 : tie.Need-same-length-2
-same-length-2 c = c .before .before .before .before .ask-corrected .ensures .size
+same-length-2 c = search needs
 
 same-length-3 : tie.Need-same-length-3
-same-length-3 c = c .before .before .before .before .ask-corrected .ensures .work-size
+same-length-3 c = search needs
 
 returns-5 : tie.Need-returns-5
 returns-5 c =
-    let a = c .before .before .before .before .before .before .before .before .before .before .before .before .before .before .before .before .before .before .before .before .before .before .before .args in
-    replies (c .before .before .before .before .before .before .before .before .before .before .before .before .before .before .before .before .before .admit .ensures) (a .c) (a .table .now) (a .work .now) (c .before .before .before .before .before .before .before .before .before .before .before .before .before .before .before .read2 .given .1) (c .before .before .before .before .before .before .before .before .before .before .before .before .before .too-small .ensures) (c .before .before .before .before .before .before .before .before .before .before .before .before .if1 .left) (c .before .before .before .before .before .before .before .before .before .before .before .if2 .left) (c .before .before .before .before .before .before .before .before .before .retained-out .ensures) (c .before .before .before .before .before .before .before .before .if3 .left) (c .before .before .before .before .ask-corrected .ensures)
+    let a = c .before .before .before .before .before .before .before .before .before .before .before .before .before .before .before .before .before .before .before .before .before .before .before .before .before .args in
+    let r = c .before .before .before .before .before .before .before .before .before .before .before .retain in
+    replies (c .before .before .before .before .before .before .before .before .before .before .before .before .before .before .before .before .before .before .before .admit .ensures) (a .c) (a .table .now) (a .work .now) (c .before .before .before .before .before .before .before .before .before .before .before .before .before .before .before .before .before .read2 .given .1) (c .before .before .before .before .before .before .before .before .before .before .before .before .before .before .before .too-small .ensures) (c .before .before .before .before .before .before .before .before .before .before .before .before .before .before .if1 .left) (c .before .before .before .before .before .before .before .before .before .before .before .before .before .if2 .left) (r .ensures .0) (c .before .before .before .before .before .before .before .before .if3 .left) (r .last .0) (r .ensures .1) (c .before .before .before .before .ask-over .ensures)
 
 pub correct-spec : {M : Type 1} → statement M
 correct-spec =
@@ -77,10 +80,10 @@ correct-spec =
     too-small-requires
     returns
     returns-2
-    retained-out-requires
+    retain-requires
     same-length
     returns-3
-    ask-corrected-requires
+    ask-over-requires
     returns-4
     same-length-2
     same-length-3

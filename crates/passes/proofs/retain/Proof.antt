@@ -1,0 +1,34 @@
+use borrow.Author.Needs.{needs}
+use Rattle.passes.proofs.Passing.{unless-out, where-out}
+use Rattle.passes.proofs.retain.Statement.{statement}
+use Rattle.passes.proofs.retain.Tie as tie
+
+retained-out-requires : tie.Need-retained-out-requires
+retained-out-requires c κs = search needs
+
+blank-to-requires : tie.Need-blank-to-requires
+blank-to-requires c κs = search needs
+
+same-length : tie.Need-same-length
+same-length c = search needs
+
+returns : tie.Need-returns
+returns c =
+    let out = c .before .before .before .before .before .retained-out in
+    let a = c .before .before .before .before .before .before .before .before .args in
+    let blank = c .before .before .blank-to in
+    (out .ensures, unless-out (out .result) (a .variables) (a .n) (a .c) (a .table .now) (blank .last .0) (c .before .before .before .before .if1 .taken) (blank .ensures))
+
+same-length-2 : tie.Need-same-length-2
+same-length-2 c = search needs
+
+returns-2 : tie.Need-returns-2
+returns-2 c =
+    let out = c .before .retained-out in
+    let a = c .before .before .before .before .args in
+    (out .ensures, where-out (out .result) (a .variables) (a .n) (a .c) (a .table .now) (c .if1 .left))
+
+pub retain-spec : {M : Type 1} → statement M
+retain-spec =
+    tie.close
+    (tie.spec retained-out-requires blank-to-requires same-length returns same-length-2 returns-2)
