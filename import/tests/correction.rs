@@ -7,7 +7,7 @@ mod random;
 #[allow(dead_code, unused_imports)] // Other tests run the machine, and check readings.
 mod recognizer;
 
-use import::{Pair, test_calls};
+use import::{Answer, Pair, Refusal, test_calls};
 use lent::Lent;
 use random::Random;
 use recognizer::{Answered, Question, code, with_deep_stack};
@@ -320,6 +320,49 @@ fn retained_loops() {
     let mut table = loops(b"xaa", 0).question(&mut random, pair(1, 1));
     let left_of_it = loops(b"aaa", 0).correction(&mut random, pair(1, 0), &mut table);
     assert_eq!(left_of_it, Ok([2, 3, 1, 3]));
+}
+
+/// The safe call, over a blank table but for the last cell: each answer, and the two refusals of its own.
+#[test]
+fn safe_call() {
+    let said = |variable, position, c, last| {
+        let case = loops(b"yaa", c);
+        let (mut table, mut work) = ([0; 20], [0; 20]);
+        table[19] = last;
+        let (sheet, entry) = (&case.sheet, &case.entry);
+        import::correct(sheet, entry, variable, position, c, &mut table, &mut work)
+    };
+    let named = |variable, position| Pair { variable, position };
+    assert_eq!(said(2, 1, 0, 8), Answer::Success { end: 2, cells: 1 });
+    assert_eq!(said(2, 0, 0, 8), Answer::Failure { cells: 1 });
+    for (answer, expected) in [
+        (
+            said(1, 1, 0, 8),
+            Answer::Loop {
+                named: named(3, 2),
+                cells: 3,
+            },
+        ),
+        (
+            said(5, 1, 0, 8),
+            Answer::Missing {
+                named: named(4, 2),
+                cells: 3,
+            },
+        ),
+        (
+            said(2, 3, 0, 8),
+            Answer::End {
+                named: named(2, 3),
+                cells: 1,
+            },
+        ),
+        (said(1, 1, 3, 8), Answer::Refused(Refusal::Corrected)),
+        (said(1, 1, 2, 9), Answer::Refused(Refusal::Cell)),
+        (said(1, 1, 2, 7), Answer::Refused(Refusal::Cell)),
+    ] {
+        assert_eq!(answer, expected);
+    }
 }
 
 /// The first of 18 and 19 that holds, where the question is accepted.

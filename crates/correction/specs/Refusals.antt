@@ -32,7 +32,7 @@ module _ (sheet input : List ℕ) (x : Pair) (c : ℕ) (table : List ℕ) (work 
   unfoldable pub conditionOf : ℕ → ℕ → Bool
   conditionOf = from 18 (correctionCondition (grammarOf sheet) input c table) (handedCondition sheet (questionOf input x (length table) work))
 
-  -- "1 to 10 ..", then 18 and 19.
+  -- The question's order, and then 18 and 19.
   unfoldable pub orderOf : List (ℕ × ℕ)
   orderOf = handedOrder sheet ++ correctionOrder
 
