@@ -32,7 +32,7 @@ use Rattle.kept.proofs.Ranged.{none-out, right-in}
 use Rattle.kept.proofs.RightCells.{ask-right, retain-right, kept-right}
 use Rattle.correction.specs.Correction.{Corrects, Correction, Replies, CorrectionPromise}
 use Rattle.correction.specs.Refusals.{correctedOut, Refuses, correctable}
-use Rattle.correction.proofs.CorrectionRefusals.{refused-before, then-tested, correction-refused, correction-small}
+use Rattle.correction.proofs.CorrectionRefusals.{refused-before, then-tested, correction-refused}
 
 -- ---- Which tables are kept: "left by a question", which a verdict and the writer ask too;
 
@@ -91,10 +91,6 @@ module _ (s input : List ℕ) (A p c : ℕ) (table work : List ℕ) where
     -- and then both slices are as they were.
     pub then-unchanged : (x l : ℕ) → told r ≡ refused x l → (table′ ≡ table) × (work′ ≡ work)
     then-unchanged x l e = let k = given (refused x l) (refused-is x l e) in (k .1, k .2)
-
-    -- The numbers of a refusal are at most 19.
-    pub refusal-most : (x l : ℕ) → told r ≡ refused x l → x ≤ 19
-    refusal-most x l e = correction-small s input (A at p) c table (length work) x l (refused-is x l e)
 
   -- ---- A kept table is never refused with 19.
 
