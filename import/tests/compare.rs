@@ -48,6 +48,34 @@ fn long_comparison() {
     });
 }
 
+/// Every class at every byte.
+#[test]
+fn classes_of_bytes() {
+    let mut comparison = Comparison::new(11);
+    for class in 1..=6 {
+        let sheet = row([1, 1, 46, 0, 0]) + &row([1, 3, class, 0, 0]);
+        for byte in 0..=255 {
+            comparison.all(&case(&sheet, &[byte, b'.'], 0));
+        }
+    }
+}
+
+/// The random entries have accented letters and other bytes from 128 on: each of them, and all together at least as often as letters below 128.
+#[test]
+fn bytes_of_random_entries() {
+    let mut random = random::Random(12);
+    let mut met = [0u64; 256];
+    for _ in 0..20_000 {
+        for byte in questions::case(&mut random).entry {
+            met[byte as usize] += 1;
+        }
+    }
+    let of = |bytes: std::ops::RangeInclusive<u8>| bytes.map(|b| met[b as usize]).sum::<u64>();
+    let letters = of(b'A'..=b'Z') + of(b'a'..=b'z');
+    assert!(letters <= of(128..=255), "{met:?}");
+    assert!(met.iter().all(|times| *times > 0), "{met:?}");
+}
+
 /// A change in a lent slice, or just outside it, is noticed.
 #[test]
 fn guards_notice() {

@@ -55,7 +55,7 @@ impl Case {
     /// Another byte at some position, sometimes the same.
     fn correct(&mut self, random: &mut Random) {
         let at = self.position(random);
-        let other = random.pick(b"aab-6A !.");
+        let other = random.pick(b"a\xE9\xE9b\xC9-6A\xA0 \xD7!\x80.");
         self.entry[at] = match random.below(6) {
             0 => self.entry[at],
             1 => random.below(256) as u8,

@@ -3,9 +3,10 @@
 
     python3 tests/longer/make.py --reference READER [--classes RANGES]
 
-READER is an implementation of document 01 in Python, reader.py, made apart from this repository. RANGES are the classes of the
-bytes, or a file with them, as 48-57:1,9:4 and so on; a byte in none has class 0. The default is document 01's. lua5.4 and lua-lpeg are
-installed from Debian where they are absent. It is run by hand; a second run writes the same bytes.
+READER is an implementation of documents 01 and 02 in Python, reader.py, made apart from this repository. RANGES are the classes of the
+bytes, or a file with them, as 48-57:1,9:4 and so on; a byte in none has class 0. The default is document 01's with document 02's order 5, and
+reader.py's own classes must agree with it. lua5.4 and lua-lpeg are installed from Debian where they are absent. It is run by hand; a second
+run writes the same bytes.
 
 What comes from where:
   LPeg (judge.lua)  outcome and end of each question whose rules LPeg takes, and the named pair of missing and end. It refuses rules
@@ -33,7 +34,9 @@ from making import Store, install, line, load_reference, stop
 
 CRATE = os.path.join(HERE, "..", "..", "crates", "test_questions")
 
-CLASSES = "48-57:1,65-90:2,97-122:3,9:4,32:4,33-47:5,58-64:5,91-96:5,123-126:5,128-255:6"
+CLASSES = ("48-57:1,65-90:2,97-122:3,9:4,32:4,33-47:5,58-64:5,91-96:5,123-126:5,"
+           "192-214:2,216-222:2,223-246:3,248-255:3,160:4,161-191:5,215:5,247:5,128-159:6")
+ORDER = 5               # reader.py's number of these classes
 
 FILE_BYTES = 262144     # the program's buffers
 OUTPUT_BYTES = 262144
@@ -67,9 +70,10 @@ def read_ranges(text):
     return ",".join(text.replace(",", " ").split())
 
 
-def reference_with(path, classes):
-    """The module reader.py with other classes."""
-    module = load_reference(path)
+def reference_with(path, ranges):
+    """The module reader.py with the classes of these ranges."""
+    module, classes = load_reference(path), class_table(ranges)
+    if ranges == CLASSES and classes != [module.class_of(b, ORDER) for b in range(256)]: stop("reader.py has other classes")
     module.class_of = lambda b, order=0: classes[b]
     return module
 
@@ -124,6 +128,15 @@ class Reference:
         """k and h of a success or a failure."""
         return self.eval(q).kh(q.variable, q.place)
 
+    def classes_met(self, q):
+        """For each rule of a class that the question reaches at a byte from 128 on: the class, the byte, and whether it is accepted."""
+        e, met = self.eval(q), set()
+        for variable, place in e.reached(q.variable, q.place):
+            kind, *operands = e.sheet.rules.get(variable, (None,))
+            if kind == 3 and place < len(q.entry) and q.entry[place] >= 128:
+                met.add((operands[0], q.entry[place], e.out(variable, place).kind == "success"))
+        return met
+
     def lpeg_calls(self, q):
         """How many calls `A <- B C / !B D` takes without a table: B is called again where it fails, and where C fails."""
         e, calls = self.eval(q), {}
@@ -176,7 +189,7 @@ class Files:
 class Maker:
     def __init__(self, reference, judge):
         self.reference, self.judge, self.files = reference, judge, Files()
-        self.sources, self.tally = [], collections.Counter()
+        self.sources, self.tally, self.bytes_met = [], collections.Counter(), set()
 
     def judged(self, q, found):
         """Outcome, end, named pair, and who says so."""
@@ -197,6 +210,7 @@ class Maker:
             (outcome, end, named), source = self.judged(q, found)
             variable, place = named or (0, end or 0)
             four = CODES[outcome], variable, place, found.count
+            self.note_classes(q)
         self.files.answer(number, QUESTION, *four, summed(table))
         self.note(number, q, outcome, source)
         return outcome
@@ -209,6 +223,12 @@ class Maker:
         self.tally[("entry", "200 to 4096 bytes" if 200 <= len(q.entry) <= 4096 else "other")] += 1
         v = questions.variables_of(q.sheet)
         self.sources.append(f"{number:5} {v:4} {len(q.entry):5} {q.variable:8} {q.place:8}  {outcome:8} {source:48} {q.group}")
+
+    def note_classes(self, q):
+        met = self.reference.classes_met(q)
+        for c, said in {(c, accepted) for c, b, accepted in met}:
+            self.tally[("byte from 128", f"class {c}, {'accepted' if said else 'refused'}")] += 1
+        self.bytes_met |= {(b, accepted) for c, b, accepted in met}
 
     # The machine.
 
@@ -343,7 +363,7 @@ def run_readings(maker, asked):
 def summary(maker, sizes, ranges):
     out = [f"Questions: {len(maker.sources)}. Requests: {len(maker.files.requests)}. Classes: {ranges}",
            f"Bytes of sheets.txt, entries, questions.txt: {sizes[0]}, {sizes[1]}, {sizes[2]}.", ""]
-    for kind in ("kind", "outcome", "source", "outcome and judge", "entry", "tasks", "machine", "damaged readings", "chains", "corrections",
+    for kind in ("kind", "outcome", "source", "outcome and judge", "entry", "byte from 128", "tasks", "machine", "damaged readings", "chains", "corrections",
                  "correction judge", "corrected byte", "asked place", "retained, reached", "refused with 19"):
         for (k, name), count in sorted(maker.tally.items()):
             if k == kind: out.append(f"{kind:18} {count:5}  {name}")
@@ -370,10 +390,13 @@ def write_sources(maker, text):
 def check_numbers(maker):
     """What the test has to have at least."""
     count = len(maker.sources)
-    if not 300 <= count <= 600: stop(f"{count} questions")
+    if not 300 <= count <= 650: stop(f"{count} questions")
     for outcome in ("success", "failure", "loop", "missing", "end", "refused"):
         if maker.tally[("outcome", outcome)] < 20: stop(f"too few questions with outcome {outcome}")
     if 2 * maker.tally[("source", "LPeg")] <= count: stop("LPeg judges less than half of the questions")
+    for b in range(128, 256):
+        for accepted in (True, False):
+            if (b, accepted) not in maker.bytes_met: stop(f"byte {b} is never {'accepted' if accepted else 'refused'} by a class")
     if maker.tally[("tasks", "questions with machine runs")] < 40: stop("too few runs of the machine")
     if maker.tally[("tasks", "readings that pass")] < 40: stop("too few readings")
 
@@ -382,7 +405,7 @@ def make(options):
     ranges = read_ranges(options.classes)
     classes = class_table(ranges)
     install()
-    reference = Reference(reference_with(options.reference, classes))
+    reference = Reference(reference_with(options.reference, ranges))
     with tempfile.TemporaryDirectory() as folder:
         maker = Maker(reference, Judge(ranges, folder))
         asked = []

@@ -63,6 +63,16 @@ def broken(group, sheet, text, rng):
     yield question(group, sheet, text + b" (page 12)", x=CELLS, y=CELLS)
 
 
+def letters_replaced(classes):
+    """French names with a small letter replaced by a byte at the edge of a class."""
+    sheet, text_of = NATURAL["French names"]
+    sheet, rng = sheet(), generator("edges")
+    for b in edges(classes):
+        text = text_of(rng, rng.randrange(220, 320))
+        at = rng.choice([i for i in range(len(text) // 2, len(text)) if classes[text[i]] == 3])
+        yield question("natural: French names, a letter replaced", sheet, text[:at] + bytes([b]) + text[at + 1:])
+
+
 # ---------------------------------------------------------------- deep recursion
 
 def through_c():
@@ -127,15 +137,23 @@ def deep():
 
 # ---------------------------------------------------------------- bytes and classes
 
+def edges(classes):
+    """The bytes from 128 on whose class is not that of the byte before, or of the byte behind."""
+    return [b for b in range(128, 256) if b == 255 or not classes[b - 1] == classes[b] == classes[b + 1]]
+
+
 def marked_bytes(classes):
-    """Pairs of a class written as a digit and a byte of it; a byte of class 0 stands for itself."""
+    """Pairs of a class written as a digit and a byte of this class and no other; a byte of class 0 stands for itself."""
     s = Sheet()
     none = [b for b in range(256) if classes[b] == 0][::6]
-    pairs = [s.seq(s.byte(48 + c), s.cls(c)) for c in range(1, 7)]
-    zero = s.seq(s.byte("0"), *[s.no(s.cls(c)) for c in range(1, 7)], s.choice(*[s.byte(b) for b in none]))
+    def no_other(c): return [s.no(s.cls(other)) for other in range(1, 7) if other != c]
+    pairs = [s.seq(s.byte(48 + c), *no_other(c), s.cls(c)) for c in range(1, 7)]
+    zero = s.seq(s.byte("0"), *no_other(0), s.choice(*[s.byte(b) for b in none]))
     s.define(1, s.seq(s.star(s.choice(*pairs, zero)), s.byte(".")))
-    text = b"".join(bytes([48 + classes[b], b]) for b in range(256) if classes[b] or b in none)
-    return s, text + b"."
+    return s, [b for b in range(256) if classes[b] or b in none]
+
+
+def marked_text(classes, marked): return b"".join(bytes([48 + classes[b], b]) for b in marked) + b"."
 
 
 def class_runs():
@@ -157,8 +175,10 @@ def byte_runs():
 
 def bytes_and_classes(classes):
     group, rng = "bytes: ", generator("bytes")
-    sheet, text = marked_bytes(classes)
+    sheet, marked = marked_bytes(classes)
+    text = marked_text(classes, marked)
     yield question(group + "every byte with its class", sheet, text)
+    yield question(group + "edges with their classes", sheet, marked_text(classes, [rng.choice(edges(classes)) for _ in range(300)]))
     for _ in range(6):
         at = 2 * rng.randrange(60, len(text) // 2)
         other = 48 + (text[at] - 48 + rng.randrange(1, 6)) % 7
@@ -169,9 +189,12 @@ def bytes_and_classes(classes):
         first = next((b for b in range(256) if classes[b] == c), 0)
         for place in (3 * first, 3 * first + 1, rng.randrange(800, 2200), len(every) - c):
             yield question(group + "runs of a class", runs, every, runs.names[f"run {c}"], place)
+    for low in [b for b in range(128, 256) if classes[b] != classes[b - 1]]:
+        for place in (3 * low, 3 * low - 1):
+            yield question(group + "runs from an edge", runs, every, runs.names[f"run {classes[low]}"], place)
     sheet = byte_runs()
-    text = bytes(rng.choice([0, 127, 128, 129, 200, 254, 255]) for _ in range(3500)) + b"."
-    for entry in (text, text[:-1], text[-400:], text[1000:2000] + b"\x01."):
+    text = bytes(rng.choice([0, 127, 128, 129, 140, 158, 159, 255]) for _ in range(3500)) + b"."
+    for entry in (text, text[:-1], text[-400:], text[1000:2000] + b"\x01.", text[:1500] + b"\xa0" + text[1500:]):
         yield question(group + "0, 127, 128 and 255", sheet, entry)
 
 
@@ -409,6 +432,7 @@ def refused():
 
 def all_questions(classes, cheap):
     yield from natural()
+    yield from letters_replaced(classes)
     yield from deep()
     yield from bytes_and_classes(classes)
     yield from missing()

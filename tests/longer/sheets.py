@@ -287,9 +287,78 @@ def accented():
 
 
 def accented_text(rng, size):
-    letters = [chr(b) for b in range(128, 256)] + list("abcdefgXYZ")
+    letters = [chr(b) for b in [*range(128, 160), *range(192, 256)] if b not in (215, 247)] + list("abcdefgXYZ")
     def item(): return "".join(rng.choice(letters) for _ in range(rng.randrange(1, 12)))
     return fill(rng, size, item, "\0", ".")
+
+
+# ---------------------------------------------------------------- natural grammars of entries in ISO 8859-1
+
+NO_BREAK = "\xa0"
+FRENCH_MONTHS = "janvier février mars avril mai juin juillet août septembre octobre novembre décembre".split()
+FRENCH_FIRST = "Élise Elise Zoë François Hélène Noël-Émile Thérèse Anaïs Ève Benoît Ômer Àgnès Öttilie Øyvind Þóra Jørgen".split()
+FRENCH_LAST = "Besançon Müller Strauß Croÿ Lefèvre Garçon Châtelain Köhler Faÿ-Lacroix Guérin Ærø Ñuño Ýmir Dupont".split()
+SIGNS = "×÷×÷×÷§°«»¿¡*+"
+
+
+def spaced(rng, *words):
+    """Words with a blank or a no-break space between them."""
+    text = words[0]
+    for word in words[1:]: text += rng.choice([" ", " ", NO_BREAK]) + word
+    return text
+
+
+def french_names():
+    """A capital and small letters, accented or not; a hyphen, a blank or a no-break space between the parts."""
+    s = Sheet()
+    part = s.name("part", s.seq(s.cls(2), s.star(s.cls(3))))
+    name = s.name("name", s.listed(part, s.byte("-")))
+    person = s.name("person", s.listed(name, s.cls(4)))
+    s.define(s.start, s.seq(s.listed(person, s.text(", ")), s.byte(".")))
+    return s
+
+
+def french_names_text(rng, size):
+    def item(): return spaced(rng, rng.choice(FRENCH_FIRST), rng.choice(FRENCH_LAST))
+    return fill(rng, size, item, ", ", ".")
+
+
+def french_dates():
+    """A day, a month and a year; the first of a month may have a sign behind it."""
+    s = Sheet()
+    digit, blank = s.cls(1), s.cls(4)
+    day = s.seq(digit, s.opt(s.choice(digit, s.cls(5), s.text("er"))))
+    month = s.name("month", s.choice(*[s.text(m) for m in FRENCH_MONTHS]))
+    date = s.name("date", s.seq(day, blank, month, blank, digit, digit, digit, digit))
+    s.define(s.start, s.seq(s.listed(date, s.text("; ")), s.byte(".")))
+    return s
+
+
+def french_dates_text(rng, size):
+    def day(): return rng.choice(["1er", "1\xba", "1\xb0"] + [str(rng.randrange(1, 32)) for _ in range(6)])
+    def item(): return spaced(rng, day(), rng.choice(FRENCH_MONTHS), str(rng.randrange(1600, 1900)))
+    return fill(rng, size, item, "; ", ".")
+
+
+def french_ages():
+    """An age in words, or a sign and an age: a marriage has the sign ×, a divorce the sign ÷."""
+    s = Sheet()
+    blank = s.cls(4)
+    number = s.name("number", s.plus(s.cls(1)))
+    unit = s.choice(*[s.text(u) for u in ("années", "ans", "mois", "jours")])
+    aged = s.seq(s.text("âgé"), s.opt(s.byte("e")), blank, s.text("de"), blank)
+    age = s.name("age", s.listed(s.seq(number, blank, unit), s.text(" et ")))
+    item = s.name("item", s.seq(s.choice(aged, s.seq(s.cls(5), blank)), age))
+    s.define(s.start, s.seq(s.listed(item, s.text(", ")), s.byte(".")))
+    return s
+
+
+def french_ages_text(rng, size):
+    def part(): return spaced(rng, str(rng.randrange(2, 90)), rng.choice(["années", "ans", "mois", "jours"]))
+    def item():
+        before = [rng.choice(SIGNS)] if rng.random() < 0.6 else [rng.choice(["âgé", "âgée"]), "de"]
+        return spaced(rng, *before, " et ".join(part() for _ in range(rng.randrange(1, 3))))
+    return fill(rng, size, item, ", ", ".")
 
 
 NATURAL = {
@@ -297,14 +366,15 @@ NATURAL = {
     "numbers": (numbers, numbers_text), "brackets": (brackets, brackets_text),
     "deep brackets": (brackets, deep_brackets_text), "three counts": (three_counts, three_counts_text),
     "remarks": (remarks, remarks_text), "shares": (shares, shares_text), "trades": (trades, trades_text),
-    "records": (records, records_text), "accented": (accented, accented_text),
+    "records": (records, records_text), "accented": (accented, accented_text), "French names": (french_names, french_names_text),
+    "French dates": (french_dates, french_dates_text), "French ages": (french_ages, french_ages_text),
 }
 
 
 # ---------------------------------------------------------------- random sheets
 
-ALPHABET = b"aaabbcd0123  A\x00\x80\xe9\xff"
-MARKS = b".-"
+ALPHABET = b"aaabbcd0123  A\x00\x80\xe9\xff\xc9\xa0"
+MARKS = b".-\xd7\xf7"
 
 
 def random_text(rng, size):

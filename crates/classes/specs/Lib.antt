@@ -1,2 +1,3 @@
 -- What class a byte has.
 pub mod Class
+pub mod Disjoint

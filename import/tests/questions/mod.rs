@@ -52,7 +52,8 @@ fn leaf(random: &mut Random) -> [u64; 4] {
     match random.pick(&[0, 1, 2, 2, 2, 2, 3, 3]) {
         2 => {
             let any = random.below(256);
-            [2, random.pick(&[97, 97, 97, 98, 45, 46, 46, any]), 0, 0]
+            let bytes = [233, 233, 233, 233, 97, 97, 98, 45, 46, 46, any];
+            [2, random.pick(&bytes), 0, 0]
         }
         3 => [3, random.pick(&[1, 2, 3, 3, 3, 4, 5, 6]), 0, 0],
         kind => [kind, 0, 0, 0],
@@ -115,18 +116,23 @@ pub fn sheet(random: &mut Random, variables: u64) -> Vec<u8> {
     text.into_bytes()
 }
 
-/// So many bytes: any, or some of a few; in long entries of fewer. Most entries have an endmarker at the end.
+/// The bytes of most entries. However many of them are taken from the front, as many are from 128 on as are letters below 128, or more.
+const BYTES: [u8; 16] = [
+    233, 233, b'a', b'a', 201, b'b', b'-', b'6', 160, b'A', b' ', 215, b'!', 128, 0, b'.',
+];
+
+/// So many bytes: any, or some of a few; in long entries of fewer. In some entries another byte stands for all from 128 on. Most have an endmarker
+/// at the end.
 pub fn entry(random: &mut Random, length: usize) -> Vec<u8> {
-    let any = random.one_in(10);
-    let bytes = [
-        b'a', b'a', b'a', b'b', b'-', b'6', b'A', b' ', b'!', 200, 0, b'.',
-    ];
-    let most = 1 + random.index(if length < 100 { bytes.len() } else { 4 });
-    let choice = &bytes[..1 + random.index(most)];
+    let (any, other) = (random.one_in(10), random.one_in(8));
+    let accented = 128 + random.below(128) as u8;
+    let most = 1 + random.index(if length < 100 { BYTES.len() } else { 4 });
+    let choice = &BYTES[..1 + random.index(most)];
     let mut entry: Vec<u8> = (0..length)
-        .map(|_| match any {
-            true => random.below(256) as u8,
-            false => random.pick(choice),
+        .map(|_| match random.pick(choice) {
+            _ if any => random.below(256) as u8,
+            128.. if other => accented,
+            byte => byte,
         })
         .collect();
     if let (Some(last), false) = (entry.last_mut(), random.one_in(4)) {

@@ -127,14 +127,16 @@ fn read(sheet: &[u8]) -> Result<Sheet, u32> {
     Ok(sheet)
 }
 
+/// The class of a byte of ISO 8859-1: "192-214 and 216-222 are class 2; 223-246 and 248-255 are class 3; 160 is class 4; 161-191, 215 and 247 are
+/// class 5; 128-159 are class 6", and below 128 as document 01 has it.
 fn class(byte: u8) -> u32 {
     match byte {
         b'0'..=b'9' => 1,
-        b'A'..=b'Z' => 2,
-        b'a'..=b'z' => 3,
-        b'\t' | b' ' => 4,
-        33..=126 => 5,
-        128..=255 => 6,
+        b'A'..=b'Z' | 192..=214 | 216..=222 => 2,
+        b'a'..=b'z' | 223..=246 | 248..=255 => 3,
+        b'\t' | b' ' | 160 => 4,
+        33..=126 | 161..=191 | 215 | 247 => 5,
+        128..=159 => 6,
         _ => 0,
     }
 }
