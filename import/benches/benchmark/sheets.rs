@@ -87,6 +87,9 @@ pub fn brackets(n: usize) -> Question {
     }
 }
 
+/// The first of the bytes that words begin with; up to 222 none of them is of class 3.
+const FIRST: u32 = 126;
+
 /// Words that begin with one of many letters: a choice of V / 2 rules at each position, so that the table is wide.
 pub fn wide(variables: u32, n: usize) -> Question {
     let choices = (variables - 6) / 2;
@@ -101,14 +104,14 @@ pub fn wide(variables: u32, n: usize) -> Question {
     for i in 0..choices {
         let next = if i + 1 < choices { 7 + 2 * (i + 1) } else { 3 };
         rules.push([4, 8 + 2 * i, 5, next]);
-        rules.push([2, 128 + i, 0, 0]);
+        rules.push([2, FIRST + i, 0, 0]);
     }
     rules.resize(variables as usize, [0; 4]);
     let mut seed = 7u32;
     let entry = (0..n)
         .map(|_| {
             seed = seed.wrapping_mul(1664525).wrapping_add(1013904223);
-            128 + (seed >> 16) as u8 % choices as u8
+            FIRST as u8 + (seed >> 16) as u8 % choices as u8
         })
         .collect();
     Question {
