@@ -4,6 +4,9 @@ use mathlib.Core.Logic.{_↔_}
 use mathlib.Core.Path.{_≡_}
 use Prim.Native.Nat.{ℕ, _*_, _-_, _/_, _≤_}
 use lib.ListN.{length, take}
+use Rattle.schema.proofs.Following.{refused-exactly, then-unchanged}
+use Rattle.memo.proofs.Following.{question-follows}
+use Rattle.writer.proofs.Following.{write-follows}
 use Rattle.grammar.specs.Refusal.{refused, accepted}
 use Rattle.grammar.specs.Sheet.{Grammar}
 use Rattle.grammar.specs.Order.{FirstHolds}
@@ -38,8 +41,8 @@ pub demand-1-question : (s input : List ℕ) (A p : ℕ) (table table′ work wo
     → (x l : ℕ) → ((told r ≡ refused x l) ↔ Refuses s (questionOf input (A at p) (length table) (length work)) x l)
     × (told r ≡ refused x l → (table′ ≡ table) × (work′ ≡ work))
 demand-1-question s input A p table table′ work work′ r promise x l =
-    let f = one.question-follows s input A p table table′ work work′ r promise in
-    (one.refused-exactly f x l, one.then-unchanged f x l)
+    let f = question-follows s input A p table table′ work work′ r promise in
+    (refused-exactly f x l, then-unchanged f x l)
 
 -- The verdict.
 pub demand-1-verdict : (s input table table′ work work′ : List ℕ) (r : Judgement) → VerdictPromise s input table table′ work work′ r
@@ -47,22 +50,22 @@ pub demand-1-verdict : (s input table table′ work work′ : List ℕ) (r : Jud
     × (verdictTold r ≡ refused x l → (table′ ≡ table) × (work′ ≡ work))
 demand-1-verdict s input table table′ work work′ r promise x l =
     let f = one.verdict-follows s input table table′ work work′ r promise in
-    (one.refused-exactly f x l, one.then-unchanged f x l)
+    (refused-exactly f x l, then-unchanged f x l)
 
 -- The machine.
 pub demand-1-run : (s input : List ℕ) (x : Pair) (frames frames′ : List ℕ) (budget : ℕ) (r : Ending) → run.Runs s input x frames frames′ budget r
     → (y l : ℕ) → ((run.told r ≡ refused y l) ↔ Refuses s (asked input x) y l) × (run.told r ≡ refused y l → frames′ ≡ frames)
 demand-1-run s input x frames frames′ budget r promise y l =
     let f = one.run-follows s input x frames frames′ budget r promise in
-    (one.refused-exactly f y l, one.then-unchanged f y l)
+    (refused-exactly f y l, then-unchanged f y l)
 
 -- The writer.
 pub demand-1-write : (s input : List ℕ) (A p : ℕ) (table table′ work work′ out out′ : List ℕ) (r : Written) → WriterPromise s input A p table table′ work work′ out out′ r
     → (x l : ℕ) → ((told (r .answer) ≡ refused x l) ↔ Refuses s (writerOf input (A at p) (length table) (length work) (length out)) x l)
     × (told (r .answer) ≡ refused x l → (table′ ≡ table) × (work′ ≡ work) × (out′ ≡ out))
 demand-1-write s input A p table table′ work work′ out out′ r promise x l =
-    let f = one.write-follows s input A p table table′ work work′ out out′ r promise in
-    (one.refused-exactly f x l, one.then-unchanged f x l)
+    let f = write-follows s input A p table table′ work work′ out out′ r promise in
+    (refused-exactly f x l, then-unchanged f x l)
 
 -- The checker.
 pub demand-1-check : (s input : List ℕ) (x : Pair) (reading : List ℕ) (r : Claim) → Checks s input x reading r

@@ -6,7 +6,8 @@ use Prim.Native.Nat.{ℕ, suc, _+_}
 use lib.Dec.{eqb}
 use lib.ListN.{length, getD}
 use Rattle.grammar.specs.Refusal.{Checked, refused, accepted}
-use Rattle.grammar.specs.Sheet.{Grammar}
+use Rattle.grammar.specs.Promise.{lineOne, stored}
+use Rattle.grammar.specs.Sheet.{Grammar, sheet}
 use Rattle.schema.specs.Derivation.{_at_, Outcome, Has}
 use Rattle.schema.specs.Exported.{returned, reported}
 use Rattle.schema.specs.Handed.{handed, verdictOf}
@@ -15,9 +16,24 @@ use Rattle.finish.specs.Reply.{told}
 use Rattle.reports.specs.Numbers.{questionNumbers}
 use Rattle.memo.specs.Answer.{QuestionPromise}
 use Rattle.finish.specs.declared.Answer.{Answer}
+use Rattle.verdict.specs.Verdict.{numbers, VerdictPromise}
+use Rattle.verdict.specs.declared.Judgement.{Judgement}
 use Rattle.correction.specs.Correction.{CorrectionPromise}
 use Rattle.shorthand.specs.Promise.{told as compiles, CompilePromise}
 use Rattle.shorthand.specs.declared.Compiled.{Compiled}
+
+-- ---- The sheet.
+
+-- The four numbers of its answer: 0 and line 1 of the sheet, V, start and endmarker; or the number and the line of a refusal.
+abbrev pub sheetNumbers : Checked (List ℕ) → List ℕ
+sheetNumbers (refused number line) = number ∷ line ∷ 0 ∷ 0 ∷ []
+sheetNumbers (accepted numbers) = 0 ∷ numbers
+
+-- The call's promise: these numbers, and the words of the rules; after a refusal the words as they were.
+pub record SheetNumbers (s answer′ words words′ : List ℕ) (r : ℕ) : Type 0 where
+  pub returns : r ≡ returned (sheet s)
+  pub reports : answer′ ≡ sheetNumbers (lineOne (sheet s))
+  pub stores : words′ ≡ stored (sheet s) words
 
 -- ---- The verdict.
 
@@ -34,6 +50,13 @@ VerdictCode sheet input r = Coded (handed sheet (verdictOf input 1024 1024)) inp
 -- The same of the four numbers of a first line.
 abbrev pub codeOf : List ℕ → ℕ
 codeOf xs = cond (eqb (getD xs 0 0) 9) (100 + getD xs 1 0) (getD xs 0 0)
+
+-- The verdict over lent slices: the promise of the verdict, with the four numbers of the first line in the answer, those of a refusal too.
+pub record JudgeNumbers (sheet input table table′ work work′ answer′ : List ℕ) (r : ℕ) : Type 0 where
+  pub found : Judgement
+  pub promise : VerdictPromise sheet input table table′ work work′ found
+  pub returns : r ≡ 0
+  pub reports : answer′ ≡ numbers found
 
 -- ---- The question.
 

@@ -2,12 +2,48 @@
 ghost use Prim.Native.Nat.{_≤_};
 ghost use mathlib.Core.Path.{_≡_};
 ghost use Rattle.schema.specs.Exported.{returned, reported, Fits};
+ghost use Rattle.grammar.specs.Promise.{told as read};
 ghost use Rattle.shorthand.specs.Promise.{told};
 ghost use Rattle.verdict.specs.Verdict.{numbers};
-ghost use Rattle.entryreader.specs.Codes.{codeOf, VerdictCode, QuestionNumbers, CorrectionNumbers, lengthNumbers, ShorthandNumbers};
+ghost use Rattle.reports.specs.Numbers.{WriterNumbers, CheckNumbers};
+ghost use Rattle.entryreader.specs.Codes.{sheetNumbers, SheetNumbers, codeOf, VerdictCode, JudgeNumbers, QuestionNumbers, CorrectionNumbers, lengthNumbers, ShorthandNumbers};
+use grammar::sheet::Rules;
+use grammar::sheet::Sheet;
+use grammar::sheet::read_sheet;
 use reports::report;
+use reports::report_check;
+use reports::report_write;
 use shorthand::Compiled;
 use verdict::Judgement;
+use verdict::numbers_of;
+
+// Stores line 1 of a sheet behind a 0, and returns 0; or the number and the line of a refusal, and returns 100 plus the number.
+fn report_sheet(sheet: Sheet, out: &mut [u32; 4]) -> u32
+    requires { ⌜ Fits (λ _. 0) (read sheet) ⌝ }
+    ensures returns { λ r. ⌜ r ≡ returned (read sheet) ⌝ }
+    ensures reports { λ _. ⌜ now (out .exit) ≡ sheetNumbers (read sheet) ⌝ }
+{
+    match sheet {
+        Sheet::Read(grammar) => {
+            *out = [0, grammar.variables, grammar.start, grammar.endmarker];
+            0
+        }
+        Sheet::Refused(number, line) => {
+            *out = [number, line, 0, 0];
+            100 + number
+        }
+    }
+}
+
+// Reads a sheet: 0, with 0, the count of variables, the start variable and the endmarker in the answer, and the rules' words; or 100 plus the number
+// of a refusal, with its number and line in the answer, and the words unchanged.
+#[no_mangle]
+pub extern "C" fn entryreader_sheet(sheet: &[u8], answer: &mut [u32; 4], words: &mut Rules) -> u32
+    ensures { λ r. ⌜ SheetNumbers (now (sheet .entry)) (now (answer .exit)) (now (words .entry)) (now (words .exit)) r ⌝ }
+{
+    let found = read_sheet(sheet, words);
+    report_sheet(found, answer)
+}
 
 // The code of a verdict, or 100 plus the number of a refusal.
 fn code(judgement: Judgement) -> u32
@@ -33,6 +69,23 @@ pub extern "C" fn entryreader_verdict(sheet: &[u8], input: &[u8]) -> u32
     let mut table = [0u32; 1024];
     let mut work = [0u32; 1024];
     code(verdict::verdict(sheet, input, &mut table, &mut work))
+}
+
+// The verdict on an input, over a lent table and a lent work slice: always 0, with the four numbers of the first line of `readentry` in the answer; a
+// refusal too, as 9, its number, its line and 0, with table and work slice unchanged.
+#[no_mangle]
+pub extern "C" fn entryreader_judge(
+    sheet: &[u8],
+    input: &[u8],
+    table: &mut [u32],
+    work: &mut [u32],
+    answer: &mut [u32; 4],
+) -> u32
+    ensures { λ r. ⌜ JudgeNumbers (now (sheet .entry)) (now (input .entry)) (now (table .entry)) (now (table .exit)) (now (work .entry)) (now (work .exit)) (now (answer .exit)) r ⌝ }
+{
+    let judgement = verdict::verdict(sheet, input, table, work);
+    *answer = numbers_of(judgement);
+    0
 }
 
 // A question about a variable at a position of the input, over a lent table and a lent work slice: 0, with the cell's code, the named
@@ -70,6 +123,40 @@ pub extern "C" fn entryreader_correct(
 {
     let found = correction::correct(sheet, input, variable, position, c, table, work);
     report(found, answer)
+}
+
+// The question, with its reading in a lent output: 0, with the question's four numbers and the count of lines in the answer; or 100 plus the number of
+// a refusal, with nothing changed.
+#[no_mangle]
+pub extern "C" fn entryreader_write(
+    sheet: &[u8],
+    input: &[u8],
+    variable: u32,
+    position: u32,
+    table: &mut [u32],
+    work: &mut [u32],
+    out: &mut [u8],
+    answer: &mut [u32; 5],
+) -> u32
+    ensures { λ r. ⌜ WriterNumbers (now (sheet .entry)) (now (input .entry)) variable position (now (table .entry)) (now (table .exit)) (now (work .entry)) (now (work .exit)) (now (out .entry)) (now (out .exit)) (now (answer .entry)) (now (answer .exit)) r ⌝ }
+{
+    report_write(sheet, input, variable, position, table, work, out, answer)
+}
+
+// The checker on a reading for a variable at a position of the input: 0, with the code of the outcome that it claims (5 + q for success ending at q,
+// 1 failure) and the end in its last line in the answer; or 100 plus the number of a refusal, with nothing changed.
+#[no_mangle]
+pub extern "C" fn entryreader_check(
+    sheet: &[u8],
+    input: &[u8],
+    variable: u32,
+    position: u32,
+    reading: &[u8],
+    answer: &mut [u32; 2],
+) -> u32
+    ensures { λ r. ⌜ CheckNumbers (now (sheet .entry)) (now (input .entry)) variable position (now (reading .entry)) (now (answer .entry)) (now (answer .exit)) r ⌝ }
+{
+    report_check(sheet, input, variable, position, reading, answer)
 }
 
 // Stores the length of a sheet, and returns 0; or 100 plus the number of a refusal.

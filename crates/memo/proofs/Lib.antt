@@ -5,3 +5,4 @@ pub mod Questioned
 pub mod TableOne
 pub mod Result
 pub mod Promised
+pub mod Following

@@ -1,30 +1,13 @@
 // The whole output of the program `readentry`.
-ghost use mathlib.Core.Path.{_≡_};
 ghost use lib.ListN.{length};
-ghost use Rattle.verdict.specs.Verdict.{numbers};
 ghost use Rattle.output.specs.Output.{StartOf, Certificate, OutputPromise};
 use grammar::sheet::Sheet;
 use grammar::sheet::read_sheet;
 use rows::write_row;
-use verdict::Judgement;
+use verdict::numbers_of;
 use writer::write;
 
 pub mod program;
-
-// The four numbers of a verdict.
-fn numbers_of(judgement: Judgement) -> [u32; 4]
-    ensures { λ r. ⌜ r ≡ numbers judgement ⌝ }
-{
-    match judgement {
-        Judgement::Recognised(end, count) => [0, 0, end, count],
-        Judgement::Failure(count) => [1, 0, 0, count],
-        Judgement::Loop(variable, position, count) => [2, variable, position, count],
-        Judgement::Missing(variable, position, count) => [3, variable, position, count],
-        Judgement::End(variable, position, count) => [4, variable, position, count],
-        Judgement::Partial(end, count) => [5, 0, end, count],
-        Judgement::Refused(number, line) => [9, number, line, 0],
-    }
-}
 
 // The start variable of a sheet; 0 where the sheet is refused.
 fn start_of(sheet: &[u8]) -> u32

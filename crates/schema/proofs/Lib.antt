@@ -16,6 +16,7 @@ pub mod Counted
 pub mod Walk
 pub mod Handed
 pub mod CallRefusals
+pub mod Following
 pub mod ClosedBy
 pub mod Tested
 pub mod SheetClosed

@@ -1,2 +1,2 @@
--- Laws of the numbers that the exported calls hand over.
+-- Laws of the numbers that the exported call of the machine hands over.
 pub mod Fitting

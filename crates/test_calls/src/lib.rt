@@ -2,16 +2,13 @@
 // Each call returns 0 with its numbers in `answer`, or 100 plus the number of a refusal, with everything lent to it unchanged.
 ghost use mathlib.Core.Path.{_≡_};
 ghost use Rattle.schema.specs.Exported.{returned, reported, Fits};
-ghost use Rattle.finish.specs.Reply.{told};
 ghost use Rattle.backtrack.specs.Run.{told as ended};
-ghost use Rattle.checker.specs.Checker.{told as claimed};
-ghost use Rattle.reports.specs.Numbers.{replyCode};
-ghost use Rattle.test_calls.specs.Numbers.{ranCode, runNumbers, RunNumbers, writerNumbers, WriterNumbers, claimCode, claimNumbers, CheckNumbers};
+ghost use Rattle.reports.specs.Numbers.{WriterNumbers, CheckNumbers};
+ghost use Rattle.test_calls.specs.Numbers.{ranCode, runNumbers, RunNumbers};
 use backtrack::Ending;
 use cells::Cell;
-use checker::Claim;
-use finish::Answer;
-use reports::report;
+use reports::report_check;
+use reports::report_write;
 
 // The code of a run whose moves are spent.
 const SPENT: u32 = 10000;
@@ -58,21 +55,6 @@ pub extern "C" fn test_run(
     report_run(found, answer)
 }
 
-// Stores the four numbers of an answer and the count of lines, and returns 0; or 100 plus the number of a refusal.
-fn report_written(answer: Answer, lines: u32, out: &mut [u32; 5]) -> u32
-    requires { ⌜ Fits replyCode (told answer) ⌝ }
-    ensures returns { λ r. ⌜ r ≡ returned (told answer) ⌝ }
-    ensures reports { λ _. ⌜ now (out .exit) ≡ reported (writerNumbers lines) (now (out .entry)) (told answer) ⌝ }
-{
-    let mut four = [0u32; 4];
-    let code = report(answer, &mut four);
-    if code == 0 {
-        let five = [four[0], four[1], four[2], four[3], lines];
-        *out = five;
-    }
-    code
-}
-
 // The writer's question about a variable at a position of the input, over a lent table, a lent work slice and a lent output. The answer: the
 // cell's code, the named variable, the named position, the count of decided cells, the count of lines.
 #[no_mangle]
@@ -88,26 +70,7 @@ pub extern "C" fn test_write(
 ) -> u32
     ensures { λ r. ⌜ WriterNumbers (now (sheet .entry)) (now (input .entry)) variable position (now (table .entry)) (now (table .exit)) (now (work .entry)) (now (work .exit)) (now (out .entry)) (now (out .exit)) (now (answer .entry)) (now (answer .exit)) r ⌝ }
 {
-    let written = writer::write(sheet, input, variable, position, table, work, out);
-    let found = written.answer;
-    report_written(found, written.lines, answer)
-}
-
-// Stores the two numbers of a claim, and returns 0; or 100 plus the number of a refusal.
-fn report_claim(claim: Claim, out: &mut [u32; 2]) -> u32
-    requires { ⌜ Fits claimCode (claimed claim) ⌝ }
-    ensures returns { λ r. ⌜ r ≡ returned (claimed claim) ⌝ }
-    ensures reports { λ _. ⌜ now (out .exit) ≡ reported claimNumbers (now (out .entry)) (claimed claim) ⌝ }
-{
-    let two = match claim {
-        Claim::Success(end) => [Cell::SUCCESS.0 + end, end],
-        Claim::Failure(end) => [Cell::FAILURE.0, end],
-        Claim::Refused(number, _) => {
-            return 100 + number;
-        }
-    };
-    *out = two;
-    0
+    report_write(sheet, input, variable, position, table, work, out, answer)
 }
 
 // The checker on a reading for a variable at a position of the input. The answer: the code of the outcome that it claims (5 + q for success ending
@@ -123,6 +86,5 @@ pub extern "C" fn test_check(
 ) -> u32
     ensures { λ r. ⌜ CheckNumbers (now (sheet .entry)) (now (input .entry)) variable position (now (reading .entry)) (now (answer .entry)) (now (answer .exit)) r ⌝ }
 {
-    let found = checker::check(sheet, input, variable, position, reading);
-    report_claim(found, answer)
+    report_check(sheet, input, variable, position, reading, answer)
 }

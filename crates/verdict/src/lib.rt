@@ -64,6 +64,21 @@ fn judge(answer: Answer, n: usize) -> Judgement
     }
 }
 
+// The four numbers of a verdict, those of the first line of `readentry`.
+pub fn numbers_of(judgement: Judgement) -> [u32; 4]
+    ensures { λ r. ⌜ r ≡ numbers judgement ⌝ }
+{
+    match judgement {
+        Judgement::Recognised(end, count) => [0, 0, end, count],
+        Judgement::Failure(count) => [1, 0, 0, count],
+        Judgement::Loop(variable, position, count) => [2, variable, position, count],
+        Judgement::Missing(variable, position, count) => [3, variable, position, count],
+        Judgement::End(variable, position, count) => [4, variable, position, count],
+        Judgement::Partial(end, count) => [5, 0, end, count],
+        Judgement::Refused(number, line) => [9, number, line, 0],
+    }
+}
+
 // The verdict on an input, over a lent table and a lent work slice.
 pub fn verdict(sheet: &[u8], input: &[u8], table: &mut [u32], work: &mut [u32]) -> Judgement
     ensures { λ r. ⌜ VerdictPromise (now (sheet .entry)) (now (input .entry)) (now (table .entry)) (now (table .exit)) (now (work .entry)) (now (work .exit)) r ⌝ }

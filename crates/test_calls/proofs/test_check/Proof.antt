@@ -1,25 +1,12 @@
-use Rattle.schema.specs.Derivation.{_at_}
-use Rattle.checker.specs.Checker.{Checks}
-use Rattle.test_calls.proofs.Fitting.{check-fits, check-numbers}
 use borrow.Author.Needs.{needs}
 use Rattle.test_calls.proofs.test_check.Statement.{statement}
 use Rattle.test_calls.proofs.test_check.Tie as tie
 
--- The pair that is checked is that of the variable and the position.
-pair-checked : (c : tie.After-check)
-    → let a = c .before .before .before .before .args in Checks (a .sheet .now) (a .input .now) (a .variable at a .position) (a .reading .now) (c .check .result)
-pair-checked c = c .check .ensures
-
-check-requires : tie.Need-check-requires
-check-requires c κs = search needs
-
-report-claim-requires : tie.Need-report-claim-requires
-report-claim-requires c κs = check-fits _ _ _ _ _ (c .before .check .result) (pair-checked (c .before))
+report-check-requires : tie.Need-report-check-requires
+report-check-requires c κs = search needs
 
 returns : tie.Need-returns
-returns c =
-    let t = c .report-claim .ensures in
-    check-numbers _ _ _ _ _ (c .before .before .check .result) (pair-checked (c .before .before)) _ _ _ (t .0) (t .1)
+returns c = c .report-check .ensures
 
 pub test-check-spec : {M : Type 1} → statement M
-test-check-spec = tie.close (tie.spec check-requires report-claim-requires returns)
+test-check-spec = tie.close (tie.spec report-check-requires returns)

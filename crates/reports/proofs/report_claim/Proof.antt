@@ -1,8 +1,8 @@
 use mathlib.Core.Path.{refl}
 use native.Mathlib.Omega.{arith}
 use borrow.Author.Needs.{needs}
-use Rattle.test_calls.proofs.report_claim.Statement.{statement}
-use Rattle.test_calls.proofs.report_claim.Tie as tie
+use Rattle.reports.proofs.report_claim.Statement.{statement}
+use Rattle.reports.proofs.report_claim.Tie as tie
 
 enum-known-claim : tie.Need-enum-known-claim
 enum-known-claim c = search needs

@@ -8,10 +8,9 @@ use Rattle.grammar.specs.Refusal.{Checked, refused, accepted}
 use Rattle.schema.specs.Derivation.{_at_}
 use Rattle.schema.specs.Exported.{returned, reported}
 use Rattle.finish.specs.Reply.{Reply, reply, told}
-use Rattle.reports.specs.Numbers.{questionNumbers}
-use Rattle.test_calls.specs.Numbers.{writerNumbers}
-use Rattle.test_calls.proofs.report_written.Statement.{statement}
-use Rattle.test_calls.proofs.report_written.Tie as tie
+use Rattle.reports.specs.Numbers.{questionNumbers, writerNumbers}
+use Rattle.reports.proofs.report_written.Statement.{statement}
+use Rattle.reports.proofs.report_written.Tie as tie
 
 -- Where 0 is returned, the four numbers stand before the count of lines.
 five : (o : Checked Reply) (lines : ℕ) (four before answer : List ℕ) → returned o ≡ 0 → four ≡ reported questionNumbers before o

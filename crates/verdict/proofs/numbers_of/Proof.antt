@@ -1,7 +1,7 @@
 use mathlib.Core.Path.{refl}
 use borrow.Author.Needs.{needs}
-use Rattle.output.proofs.numbers_of.Statement.{statement}
-use Rattle.output.proofs.numbers_of.Tie as tie
+use Rattle.verdict.proofs.numbers_of.Statement.{statement}
+use Rattle.verdict.proofs.numbers_of.Tie as tie
 
 enum-known-judgement : tie.Need-enum-known-judgement
 enum-known-judgement c = search needs

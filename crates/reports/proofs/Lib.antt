@@ -1,0 +1,2 @@
+-- Laws of the numbers that exported calls hand over.
+pub mod Fitting
