@@ -1,0 +1,254 @@
+//! The exported calls one by one, over slices that the caller lends: for who keeps tables, or wants no memory taken. [`Reader`](crate::Reader) is
+//! simpler.
+//!
+//! After a refusal everything lent is as it was.
+//!
+//! ```
+//! use entryreader::{Answer, lent};
+//!
+//! let sheet = b"    1    1   46    0    0\n    1    2   46    0    0\n";
+//! let (mut table, mut work) = ([0; 2], [0; 2]);
+//! let answer = lent::question(sheet, b".", 1, 0, &mut table, &mut work)?;
+//! assert_eq!(answer, Answer::Success { end: 1, cells: 1 });
+//! assert_eq!(table, [6, 0]);
+//! # Ok::<(), entryreader::Error>(())
+//! ```
+use crate::{Answer, Claim, Code, Error, Verdict, calls};
+
+/// Line 1 of a sheet.
+///
+/// ```
+/// use entryreader::lent::{Header, sheet};
+///
+/// let header = sheet(b"    7    2   46    0    0\n", &mut [0; 256])?;
+/// assert_eq!(header, Header { variables: 7, start: 2, endmarker: 46 });
+/// # Ok::<(), entryreader::Error>(())
+/// ```
+#[derive(Clone, Copy, Debug, PartialEq, Eq, Hash)]
+pub struct Header {
+    /// V, the count of variables, 1 to 256.
+    pub variables: u32,
+    /// The start variable, 1 to V.
+    pub start: u32,
+    /// The endmarker.
+    pub endmarker: u8,
+}
+
+/// Reads a sheet: its line 1, and in `words` the rule of each variable, one number each: the kind and 1, or 0 for no rule, then three operands, a byte each,
+/// the highest first, called variables less 1.
+///
+/// ```
+/// use entryreader::lent::sheet;
+///
+/// let mut words = [9; 256];
+/// sheet(b"    2    1   46    0    0\n    1    2   45    0    0\n", &mut words)?;
+/// assert_eq!(words[..2], [u32::from_be_bytes([3, 45, 0, 0]), 0]);
+///
+/// let error = sheet(b"    2    3   46    0    0\n", &mut words).unwrap_err();
+/// assert_eq!((error.number(), error.line()), (3, Some(1)));
+/// # Ok::<(), entryreader::Error>(())
+/// ```
+pub fn sheet(sheet: &[u8], words: &mut [u32; 256]) -> Result<Header, Error> {
+    let mut answer = [0; 4];
+    calls::sheet(sheet, &mut answer, words);
+    match answer {
+        [0, variables, start, endmarker] => Ok(Header {
+            variables,
+            start,
+            endmarker: u8::try_from(endmarker)
+                .unwrap_or_else(|_| unreachable!("an endmarker is a byte")),
+        }),
+        [number, line, _, _] => Err(Error::new(number, line)),
+    }
+}
+
+/// The kind of the verdict on an entry. The call has 1,024 cells of its own: where V times (n + 1) is more, it is refused (10).
+///
+/// ```
+/// use entryreader::{Code, Refusal, lent::verdict};
+///
+/// let sheet = b"    1    1   46    0    0\n    1    2   46    0    0\n";
+/// assert_eq!(verdict(sheet, b".")?, Code::Recognised);
+/// assert_eq!(verdict(sheet, b"1").unwrap_err().refusal(), Refusal::Endmarker);
+/// # Ok::<(), entryreader::Error>(())
+/// ```
+pub fn verdict(sheet: &[u8], entry: &[u8]) -> Result<Code, Error> {
+    let code = calls::verdict(sheet, entry);
+    Code::from_number(code).ok_or_else(|| Error::from_code(code))
+}
+
+/// The verdict on an entry, over a lent table and a lent work slice of V times (n + 1) numbers or more. The table is left as [`question`] leaves it.
+///
+/// ```
+/// use entryreader::{Verdict, lent::judge};
+///
+/// let sheet = b"    1    1   46    0    0\n    1    2   46    0    0\n";
+/// let (mut table, mut work) = ([0; 2], [0; 2]);
+/// assert_eq!(judge(sheet, b".", &mut table, &mut work)?, Verdict::Recognised { cells: 1 });
+/// # Ok::<(), entryreader::Error>(())
+/// ```
+pub fn judge(
+    sheet: &[u8],
+    entry: &[u8],
+    table: &mut [u32],
+    work: &mut [u32],
+) -> Result<Verdict, Error> {
+    let mut answer = [0; 4];
+    calls::judge(sheet, entry, table, work, &mut answer);
+    Verdict::from_numbers(answer)
+}
+
+/// The outcome of a variable at a position of an entry, over a lent table and a lent work slice of V times (n + 1) numbers or more.
+///
+/// Afterwards the cell of variable A at p, number (A - 1) times (n + 1) plus p, holds 0 if its pair is not reached, 1 for failure, 2 for loop,
+/// 3 for missing, 4 for end, 5 + q for success ending at q. Later cells are unchanged, and so are later numbers of the work slice.
+///
+/// ```
+/// use entryreader::{Answer, lent::question};
+///
+/// let sheet = b"    1    1   46    0    0\n    1    2   46    0    0\n";
+/// let (mut table, mut work) = ([7; 3], [7; 3]);
+/// let answer = question(sheet, b".", 1, 0, &mut table, &mut work)?;
+/// assert_eq!(answer, Answer::Success { end: 1, cells: 1 });
+/// assert_eq!(table, [6, 0, 7]);
+/// # Ok::<(), entryreader::Error>(())
+/// ```
+pub fn question(
+    sheet: &[u8],
+    entry: &[u8],
+    variable: u32,
+    position: u32,
+    table: &mut [u32],
+    work: &mut [u32],
+) -> Result<Answer, Error> {
+    let mut numbers = [0; 4];
+    let code = calls::question(sheet, entry, variable, position, table, work, &mut numbers);
+    Answer::from_numbers(code, numbers)
+}
+
+/// The outcome of a variable at a position of an entry of which the byte at `c` was corrected, over the table that a question left of the entry
+/// before, or a correction; `cells` is the count of newly decided cells.
+///
+/// Cells at positions up to `c` are blanked, the others retained. The answer is then the one that a fresh table gives, and afterwards a cell is
+/// not blank where it was retained so or its pair is reached, and holds its pair's outcome: the table serves for the next correction. From any other
+/// table nothing is promised but that the call ends within its slices. Later cells are unchanged, and so are later numbers of the work slice.
+///
+/// ```
+/// use entryreader::{Answer, lent::{correct, question}};
+///
+/// // A digit and a full stop.
+/// let sheet = b"    3    1   46    0    0
+///     1    4    2    3    2
+///     2    3    1    0    0
+///     3    2   46    0    0
+/// ";
+/// let (mut table, mut work) = ([0; 9], [0; 9]);
+/// assert_eq!(question(sheet, b"6.", 1, 0, &mut table, &mut work)?, Answer::Success { end: 2, cells: 3 });
+/// // The byte at 0 is a 9, after all: the full stop behind it is not read again.
+/// assert_eq!(correct(sheet, b"9.", 1, 0, 0, &mut table, &mut work)?, Answer::Success { end: 2, cells: 2 });
+/// # Ok::<(), entryreader::Error>(())
+/// ```
+pub fn correct(
+    sheet: &[u8],
+    entry: &[u8],
+    variable: u32,
+    position: u32,
+    c: u32,
+    table: &mut [u32],
+    work: &mut [u32],
+) -> Result<Answer, Error> {
+    let mut numbers = [0; 4];
+    let code = calls::correct(
+        sheet,
+        entry,
+        variable,
+        position,
+        c,
+        table,
+        work,
+        &mut numbers,
+    );
+    Answer::from_numbers(code, numbers)
+}
+
+/// The question, with its reading written at the front of `out`, which has 49 times V times (n + 1) bytes or more: the answer, and the count of lines.
+/// What stands behind them is unchanged.
+///
+/// ```
+/// use entryreader::{Answer, lent::write};
+///
+/// let sheet = b"    1    1   46    0    0\n    1    2   46    0    0\n";
+/// let (mut table, mut work, mut out) = ([0; 2], [0; 2], [0; 98]);
+/// let (answer, lines) = write(sheet, b".", 1, 0, &mut table, &mut work, &mut out)?;
+/// assert_eq!((answer, lines), (Answer::Success { end: 1, cells: 1 }, 1));
+/// assert_eq!(&out[..49], b"       1       0       0       1       0       0\n");
+/// # Ok::<(), entryreader::Error>(())
+/// ```
+pub fn write(
+    sheet: &[u8],
+    entry: &[u8],
+    variable: u32,
+    position: u32,
+    table: &mut [u32],
+    work: &mut [u32],
+    out: &mut [u8],
+) -> Result<(Answer, u32), Error> {
+    let mut numbers = [0; 5];
+    let code = calls::write(
+        sheet,
+        entry,
+        variable,
+        position,
+        table,
+        work,
+        out,
+        &mut numbers,
+    );
+    let [cell, named_variable, named_position, cells, lines] = numbers;
+    let answer = Answer::from_numbers(code, [cell, named_variable, named_position, cells])?;
+    Ok((answer, lines))
+}
+
+/// Checks a reading about a variable at a position: what it claims, where each of its lines follows and the last is about that pair.
+///
+/// ```
+/// use entryreader::{Claim, lent::check};
+///
+/// let sheet = b"    1    1   46    0    0\n    1    2   46    0    0\n";
+/// let reading = b"       1       0       0       1       0       0\n";
+/// assert_eq!(check(sheet, b".", 1, 0, reading)?, Claim::Success { end: 1 });
+/// assert_eq!(check(sheet, b"6", 1, 0, reading).unwrap_err().number(), 13);
+/// # Ok::<(), entryreader::Error>(())
+/// ```
+pub fn check(
+    sheet: &[u8],
+    entry: &[u8],
+    variable: u32,
+    position: u32,
+    reading: &[u8],
+) -> Result<Claim, Error> {
+    let mut numbers = [0; 2];
+    let code = calls::check(sheet, entry, variable, position, reading, &mut numbers);
+    Claim::from_numbers(code, numbers)
+}
+
+/// The rule sheet of a text of the societies' shorthand, written at the front of `out`: its length. What stands behind it is unchanged.
+///
+/// A line is a capital, `=`, rows parted by `/`, and a line feed; a row is capitals, bytes between single quotes, `%`, and rows in round or
+/// square brackets. The letters are variables 1, 2 and so on by first appearance; the sheet's start is 1 and its endmarker the full stop.
+///
+/// ```
+/// use entryreader::lent::shorthand;
+///
+/// let mut out = [0; 2_000];
+/// let length = shorthand(b"S='-'D/D\nD=('0'/'6')'.'\n", &mut out)?;
+/// assert_eq!(length % 26, 0);
+/// # Ok::<(), entryreader::Error>(())
+/// ```
+pub fn shorthand(text: &[u8], out: &mut [u8]) -> Result<usize, Error> {
+    let mut answer = [0];
+    match calls::shorthand(text, out, &mut answer) {
+        0 => Ok(calls::length(answer[0])),
+        code => Err(Error::from_code(code)),
+    }
+}

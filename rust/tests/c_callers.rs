@@ -1,0 +1,369 @@
+//! The C header: a C program that is compiled against it puts the marked entries through every exported call, and prints what the calls of this package
+//! give; and the declarations in the header, in the package and in the source are the same.
+#[allow(dead_code)] // Other tests ask the other cases.
+mod marked_cases;
+
+use entryreader::{Answer, Claim, Error, Pair, Verdict, lent};
+use marked_cases::{H, READING};
+use std::collections::BTreeMap;
+use std::fmt::Write as _;
+use std::io::Write as _;
+use std::path::{Path, PathBuf};
+use std::process::{Command, Stdio};
+
+/// A sheet, or a text of the shorthand; and an entry.
+type Handed = (&'static [u8], &'static [u8]);
+
+/// A call's answer; or 100 plus the number of a refusal.
+type Returned<T> = Result<T, u32>;
+
+/// The marked entries, then a refused sheet and a refused entry; each with the question's numbers, and the verdict's code.
+fn cases() -> Vec<(Handed, Returned<[u32; 4]>, Returned<u32>)> {
+    let mut cases: Vec<_> = marked_cases::cases()
+        .map(|case| {
+            let verdict = case.verdict.map(|code| code.number());
+            (
+                (case.sheet.as_bytes(), case.entry.as_bytes()),
+                Ok(answer_numbers(case.answer)),
+                verdict.map_err(|refusal| 100 + refusal.number()),
+            )
+        })
+        .into();
+    let h = H.as_bytes();
+    cases.push(((&h[..h.len() - 1], b"-6."), Err(101), Err(101)));
+    cases.push(((h, &[b'6'; 4097]), Err(106), Err(106)));
+    cases
+}
+
+/// A sign, or none; then a digit and a full stop.
+const TEXT: Handed = (b"S='-'D/D\nD=('0'/'6')'.'\n", b"-6.");
+
+fn folder() -> &'static Path {
+    Path::new(env!("CARGO_MANIFEST_DIR"))
+}
+
+/// Compiles a source file with every warning an error.
+fn compile(compiler: &str, source: &Path, arguments: &[&str], made: &Path) {
+    let output = Command::new(compiler)
+        .args(["-Wall", "-Wextra", "-Werror", "-pedantic", "-I"])
+        .arg(folder().join("include"))
+        .args(["-o".as_ref(), made, source])
+        .args(arguments)
+        .output()
+        .unwrap_or_else(|error| panic!("{compiler}: {error}"));
+    let errors = String::from_utf8_lossy(&output.stderr);
+    assert!(output.status.success(), "{errors}");
+}
+
+fn temporary(name: &str) -> PathBuf {
+    Path::new(env!("CARGO_TARGET_TMPDIR")).join(name)
+}
+
+/// What the C program prints about the cases.
+fn printed_by_c(handed: &[Handed]) -> String {
+    let program = temporary("marked");
+    let source = folder().join("tests/c_callers/marked.c");
+    let library = env!("ENTRYREADER_LIBRARY");
+    compile("cc", &source, &["-std=c99", library], &program);
+    let mut child = Command::new(&program)
+        .stdin(Stdio::piped())
+        .stdout(Stdio::piped())
+        .spawn()
+        .expect("the program runs");
+    let mut input = Vec::new();
+    for bytes in handed.iter().flat_map(|(sheet, entry)| [sheet, entry]) {
+        input.extend(format!("{}\n", bytes.len()).into_bytes());
+        input.extend(*bytes);
+    }
+    let mut pipe = child.stdin.take().expect("it is piped");
+    let writer = std::thread::spawn(move || pipe.write_all(&input));
+    let output = child.wait_with_output().expect("the program ends");
+    writer.join().expect("no panic").expect("all is read");
+    assert!(output.status.success());
+    String::from_utf8(output.stdout).expect("it prints ASCII")
+}
+
+/// The text that the C program prints of the same calls, made through this package.
+struct Printed {
+    text: String,
+    table: Vec<u32>,
+    work: Vec<u32>,
+}
+
+/// A call by its name: what it returns, and its answer.
+fn report(text: &mut String, name: &str, returned: u32, numbers: &[u32]) {
+    print(text, &format!("{name} {returned}:"), numbers);
+}
+
+fn print(text: &mut String, name: &str, numbers: &[u32]) {
+    text.push_str(name);
+    for number in numbers {
+        write!(text, " {number}").expect("a string takes it");
+    }
+    text.push('\n');
+}
+
+/// What a call returned, and its answer: as it was, full of 7, after a refusal.
+fn returned<const N: usize>(found: Result<[u32; N], Error>) -> (u32, [u32; N]) {
+    found.map_or_else(
+        |error| (100 + error.number(), [7; N]),
+        |numbers| (0, numbers),
+    )
+}
+
+fn answer_numbers(answer: Answer) -> [u32; 4] {
+    let of = |code, Pair { variable, position }, cells| [code, variable, position, cells];
+    match answer {
+        Answer::Success { end, cells } => [5 + end, 0, 0, cells],
+        Answer::Failure { cells } => [1, 0, 0, cells],
+        Answer::Loop { named, cells } => of(2, named, cells),
+        Answer::Missing { named, cells } => of(3, named, cells),
+        Answer::End { named, cells } => of(4, named, cells),
+    }
+}
+
+fn verdict_numbers(found: Result<Verdict, Error>, length: u32) -> [u32; 4] {
+    let of = |code, Pair { variable, position }, cells| [code, variable, position, cells];
+    match found {
+        Ok(Verdict::Recognised { cells }) => [0, 0, length, cells],
+        Ok(Verdict::Failure { cells }) => [1, 0, 0, cells],
+        Ok(Verdict::Loop { named, cells }) => of(2, named, cells),
+        Ok(Verdict::Missing { named, cells }) => of(3, named, cells),
+        Ok(Verdict::End { named, cells }) => of(4, named, cells),
+        Ok(Verdict::Partial { end, cells }) => [5, 0, end, cells],
+        Err(error) => [9, error.number(), error.line().unwrap_or(0), 0],
+    }
+}
+
+impl Printed {
+    fn new() -> Printed {
+        Printed {
+            text: String::new(),
+            table: Vec::new(),
+            work: Vec::new(),
+        }
+    }
+
+    fn fill(&mut self) {
+        self.table = vec![7; 1024];
+        self.work = vec![7; 1024];
+    }
+
+    fn table(&mut self) {
+        print(&mut self.text, "table", &self.table[..32]);
+    }
+
+    /// The sheet of a text of the shorthand; or the bytes themselves.
+    fn shorthand(&mut self, bytes: &[u8]) -> Vec<u8> {
+        let mut made = vec![7; 26 * 257];
+        let length = lent::shorthand(bytes, &mut made);
+        let length_number = length.map(|length| [u32::try_from(length).expect("it is short")]);
+        let (code, numbers) = returned(length_number);
+        report(&mut self.text, "shorthand", code, &numbers);
+        length.map_or(bytes.to_vec(), |length| made[..length].to_vec())
+    }
+
+    fn sheet(&mut self, sheet: &[u8]) {
+        let mut words = [7; 256];
+        let (code, numbers) = match lent::sheet(sheet, &mut words) {
+            Ok(header) => {
+                let endmarker = header.endmarker.into();
+                (0, [0, header.variables, header.start, endmarker])
+            }
+            Err(error) => {
+                let line = error.line().unwrap_or(0);
+                (100 + error.number(), [error.number(), line, 0, 0])
+            }
+        };
+        report(&mut self.text, "sheet", code, &numbers);
+        print(&mut self.text, "words", &words);
+    }
+
+    fn verdicts(&mut self, sheet: &[u8], entry: &[u8]) {
+        let code = lent::verdict(sheet, entry);
+        let code = code.map_or_else(|error| 100 + error.number(), |code| code.number());
+        report(&mut self.text, "verdict", code, &[]);
+        self.fill();
+        let found = lent::judge(sheet, entry, &mut self.table, &mut self.work);
+        let length = u32::try_from(entry.len()).expect("it is short");
+        report(&mut self.text, "judge", 0, &verdict_numbers(found, length));
+        self.table();
+    }
+
+    fn questions(&mut self, sheet: &[u8], entry: &[u8]) {
+        self.fill();
+        let found = lent::question(sheet, entry, 1, 0, &mut self.table, &mut self.work);
+        let (code, numbers) = returned(found.map(answer_numbers));
+        report(&mut self.text, "question", code, &numbers);
+        self.table();
+        let found = lent::correct(sheet, entry, 1, 0, 0, &mut self.table, &mut self.work);
+        let (code, numbers) = returned(found.map(answer_numbers));
+        report(&mut self.text, "correct", code, &numbers);
+        self.table();
+    }
+
+    fn reading(&mut self, sheet: &[u8], entry: &[u8]) {
+        self.fill();
+        let mut output = vec![7; 49 * 1024];
+        let (table, work) = (&mut self.table, &mut self.work);
+        let found = lent::write(sheet, entry, 1, 0, table, work, &mut output);
+        let (code, numbers) = returned(found.map(|(answer, lines)| {
+            let [cell, variable, position, cells] = answer_numbers(answer);
+            [cell, variable, position, cells, lines]
+        }));
+        report(&mut self.text, "write", code, &numbers);
+        let lines = found.map_or(0, |(_, lines)| usize::try_from(lines).expect("few"));
+        let reading = &output[..49 * lines];
+        self.text += std::str::from_utf8(reading).expect("a reading is ASCII");
+        let claim = lent::check(sheet, entry, 1, 0, reading).map(|claim| match claim {
+            Claim::Success { end } => [5 + end, end],
+            Claim::Failure => [1, 0],
+        });
+        let (code, numbers) = returned(claim);
+        report(&mut self.text, "check", code, &numbers);
+    }
+
+    fn case(&mut self, (sheet, entry): Handed) {
+        let sheet = self.shorthand(sheet);
+        self.sheet(&sheet);
+        self.verdicts(&sheet, entry);
+        self.questions(&sheet, entry);
+        self.reading(&sheet, entry);
+    }
+}
+
+#[test]
+fn marked_entries_in_c() {
+    let cases = cases();
+    let mut handed: Vec<Handed> = cases.iter().map(|(handed, _, _)| *handed).collect();
+    handed.push(TEXT);
+    let text = printed_by_c(&handed);
+    let mut expected = Printed::new();
+    handed.into_iter().for_each(|case| expected.case(case));
+    assert_eq!(text, expected.text);
+
+    // The numbers that document 01 gives; how many cells a text's sheet decides is free.
+    let mut lines = String::new();
+    for (_, question, verdict) in cases {
+        let code = verdict.unwrap_or_else(|code| code);
+        report(&mut lines, "verdict", code, &[]);
+        let code = question.err().unwrap_or(0);
+        report(&mut lines, "question", code, &question.unwrap_or([7; 4]));
+    }
+    let of_both = |line: &&str| line.starts_with("verdict") || line.starts_with("question");
+    let found: Vec<&str> = text.lines().filter(of_both).collect();
+    let lines: Vec<&str> = lines.lines().collect();
+    assert_eq!(found[..lines.len()], lines);
+    assert_eq!(found[lines.len()], "verdict 0:");
+    let written = format!("write 0: 8 0 0 5 5\n{READING}check 0: 8 3\n");
+    assert!(text.contains(&written), "{text}");
+}
+
+/// The header is one of C++ too.
+#[test]
+fn header_in_cpp() {
+    let source = temporary("header.cpp");
+    std::fs::write(&source, "#include \"entryreader.h\"\n").expect("it is written");
+    compile(
+        "c++",
+        &source,
+        &["-std=c++98", "-c"],
+        &temporary("header.o"),
+    );
+}
+
+/// Each declared call with the types of its parameters as `src/calls.rs` writes them, a slice as two.
+type Declared = BTreeMap<String, Vec<String>>;
+
+/// The declarations in a text that begin with `before`, behind which the call's name stands.
+fn declared(text: &str, before: &str, types: fn(&str) -> Vec<String>) -> Declared {
+    let mut found = Declared::new();
+    for part in text.split(before).skip(1) {
+        let (name, rest) = part.split_once('(').expect("parameters follow");
+        let parameters = rest[..closing(rest)].split(',').map(str::trim);
+        let types = parameters.filter(|text| !text.is_empty()).flat_map(types);
+        found.insert(name.to_string(), types.collect());
+    }
+    found
+}
+
+/// Where the bracket is closed that was opened before the text.
+fn closing(text: &str) -> usize {
+    let mut open = 1;
+    let closes = |byte: u8| {
+        open += match byte {
+            b'(' => 1,
+            b')' => -1,
+            _ => 0,
+        };
+        open == 0
+    };
+    text.bytes().position(closes).expect("it is closed")
+}
+
+/// The type of a parameter behind its name.
+fn behind_name(parameter: &str) -> &str {
+    parameter.split_once(": ").expect("it has a type").1
+}
+
+fn types_in_package(parameter: &str) -> Vec<String> {
+    vec![behind_name(parameter).to_string()]
+}
+
+fn types_in_source(parameter: &str) -> Vec<String> {
+    let found = behind_name(parameter).replace("Rules", "[u32; 256]");
+    let pointer = found.replace("&mut ", "*mut ").replace('&', "*const ");
+    if pointer.contains(';') || !pointer.contains('[') {
+        return vec![pointer];
+    }
+    vec![pointer.replace(['[', ']'], ""), "usize".to_string()]
+}
+
+/// A parameter in C, its name left out.
+fn types_in_header(parameter: &str) -> Vec<String> {
+    let name_end = |c: char| !c.is_ascii_alphanumeric() && c != '_';
+    let found = match parameter.split_once("(*") {
+        Some((element, array)) => {
+            assert_eq!(element, "uint32_t ", "{parameter}");
+            let length = array.split(['[', ']']).nth(1).expect("it has a length");
+            format!("*mut [u32; {length}]")
+        }
+        None => {
+            let name = parameter.rfind(name_end).expect("it has a type") + 1;
+            let found = match parameter[..name].trim() {
+                "const uint8_t *" => "*const u8",
+                "uint8_t *" => "*mut u8",
+                "uint32_t *" => "*mut u32",
+                "uint32_t" => "u32",
+                "size_t" => "usize",
+                other => other,
+            };
+            found.to_string()
+        }
+    };
+    vec![found]
+}
+
+/// Header, package and source declare the same calls with the same parameters, and all of them return 32 bits.
+#[test]
+fn declarations() {
+    let source = include_str!("../../crates/entryreader/src/lib.rt");
+    let package = include_str!("../src/calls.rs");
+    let header = include_str!("../include/entryreader.h");
+    let in_source = declared(source, "pub extern \"C\" fn ", types_in_source);
+    let externs = package.split_once("\n}\n").expect("the declarations end").0;
+    assert_eq!(
+        declared(externs, "    fn ", types_in_package),
+        in_source,
+        "package and source"
+    );
+    assert_eq!(
+        declared(header, "\nuint32_t ", types_in_header),
+        in_source,
+        "header and source"
+    );
+    assert_eq!(in_source.len(), 8, "{in_source:?}");
+    assert_eq!(in_source["entryreader_sheet"].len(), 4);
+    assert_eq!(externs.matches(") -> u32;").count(), in_source.len());
+    assert_eq!(header.matches(");\n").count(), in_source.len());
+}

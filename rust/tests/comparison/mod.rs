@@ -1,0 +1,512 @@
+//! Each call beside the recognizer: what it returns, its answer, and every lent slice with the guards around it.
+use crate::lent::Lent;
+use crate::questions::{self, Case};
+use crate::random::Random;
+use crate::recognizer::{self, Answered, Ending, Outcome, Ran, Size, Written, bytes, code};
+use entryreader::{Answer, Claim, Pair, lent as exported, test_calls};
+use std::collections::{BTreeMap, BTreeSet};
+
+const OUTCOMES: &[&str] = &["success", "failure", "loop", "missing", "end"];
+
+const VERDICTS: &[&str] = &["recognised", "partial", "failure", "loop", "missing", "end"];
+
+/// What each call can say, and the numbers of its refusals; and how many cells a question decides.
+const ANSWERS: [(&str, &[&str], &[u32]); 8] = [
+    ("sheet", &["read"], &[1, 2, 3, 4, 5]),
+    ("question", OUTCOMES, &[1, 2, 3, 4, 5, 6, 8, 9, 10]),
+    ("verdict", VERDICTS, &[1, 2, 3, 4, 5, 6, 7, 10]),
+    ("judge", VERDICTS, &[1, 2, 3, 4, 5, 6, 7, 10]),
+    (
+        "run",
+        &["success", "failure", "missing", "end", "spent", "no frame"],
+        &[1, 2, 3, 4, 5, 6, 8, 9],
+    ),
+    ("write", OUTCOMES, &[1, 2, 3, 4, 5, 6, 8, 9, 10, 11]),
+    (
+        "check",
+        &["success", "failure"],
+        &[1, 2, 3, 4, 5, 6, 8, 9, 12, 13, 14],
+    ),
+    ("cells", &["1", "2 to 9", "10 to 99", "100 or more"], &[]),
+];
+
+fn name(outcome: Outcome) -> String {
+    let name = match outcome {
+        Outcome::Success(_) => "success",
+        Outcome::Failure => "failure",
+        Outcome::Loop => "loop",
+        Outcome::Missing => "missing",
+        Outcome::End => "end",
+    };
+    name.to_string()
+}
+
+fn refused(number: u32) -> String {
+    format!("refused {number:>2}")
+}
+
+fn decided(cells: u32) -> String {
+    let cells = match cells {
+        0..2 => "1",
+        2..10 => "2 to 9",
+        10..100 => "10 to 99",
+        _ => "100 or more",
+    };
+    cells.to_string()
+}
+
+fn end(outcome: Outcome) -> u32 {
+    match outcome {
+        Outcome::Success(end) => end,
+        _ => 0,
+    }
+}
+
+/// The numbers of a question's answer.
+fn numbers(found: &Answered) -> [u32; 4] {
+    let named = found.named.unwrap_or(Pair {
+        variable: 0,
+        position: 0,
+    });
+    [
+        code(found.outcome),
+        named.variable,
+        named.position,
+        found.cells,
+    ]
+}
+
+/// What the program is to get of a question.
+fn answer(found: &Answered) -> Answer {
+    let cells = found.cells;
+    let named = || found.named.expect("only success and failure name no pair");
+    match found.outcome {
+        Outcome::Success(end) => Answer::Success { end, cells },
+        Outcome::Failure => Answer::Failure { cells },
+        Outcome::Loop => Answer::Loop {
+            named: named(),
+            cells,
+        },
+        Outcome::Missing => Answer::Missing {
+            named: named(),
+            cells,
+        },
+        Outcome::End => Answer::End {
+            named: named(),
+            cells,
+        },
+    }
+}
+
+/// The question as the program asks it.
+fn as_program(case: &Case, table: usize, work: usize, expected: &Result<Answered, u32>) {
+    let (mut table, mut work) = (vec![7; table], vec![7; work]);
+    let Pair { variable, position } = case.asked;
+    let found = exported::question(
+        &case.sheet,
+        &case.entry,
+        variable,
+        position,
+        &mut table,
+        &mut work,
+    );
+    let found = found.map_err(|error| error.number());
+    assert_eq!(
+        found,
+        expected.as_ref().map(answer).map_err(|n| *n),
+        "{case}"
+    );
+}
+
+/// The checker as the program calls it.
+fn exported_check(case: &Case, reading: &[u8], expected: Result<(Outcome, u32), u32>) {
+    let Pair { variable, position } = case.asked;
+    let found = exported::check(&case.sheet, &case.entry, variable, position, reading);
+    let expected = expected.map(|(outcome, end)| match outcome {
+        Outcome::Success(_) => Claim::Success { end },
+        _ => Claim::Failure,
+    });
+    let found = found.map_err(|error| error.number());
+    assert_eq!(found, expected, "check: {case}");
+}
+
+/// Sheet and entry, lent for reading.
+struct Handed {
+    sheet: Lent<u8>,
+    entry: Lent<u8>,
+}
+
+impl Handed {
+    fn new(random: &mut Random, case: &Case) -> Handed {
+        Handed {
+            sheet: Lent::of(random, &case.sheet),
+            entry: Lent::of(random, &case.entry),
+        }
+    }
+
+    fn unchanged(&self) -> bool {
+        self.sheet.unchanged() && self.entry.unchanged()
+    }
+}
+
+/// Table, work slice, output and answer.
+struct Room {
+    table: Lent<u32>,
+    work: Lent<u32>,
+    output: Lent<u8>,
+    answer: Lent<u32>,
+}
+
+impl Room {
+    fn new(random: &mut Random, [table, work, output]: [usize; 3], answer: usize) -> Room {
+        Room {
+            table: Lent::any(random, table),
+            work: Lent::any(random, work),
+            output: Lent::any(random, output),
+            answer: Lent::any(random, answer),
+        }
+    }
+
+    /// Do answer, table and output hold what they are to hold, and everything else what it held?
+    fn holds(&self, answer: &[u32], table: &[u32], output: &[u8]) -> bool {
+        self.answer.holds(answer)
+            && self.table.holds(table)
+            && self.work.keeps_from(table.len())
+            && self.output.holds(output)
+    }
+
+    fn unchanged(&self) -> bool {
+        self.table.unchanged()
+            && self.work.unchanged()
+            && self.output.unchanged()
+            && self.answer.unchanged()
+    }
+}
+
+/// The numbers of a run's answer, and its name.
+fn ran(ran: Ran) -> ([u32; 3], String) {
+    let (code, end, what) = match ran.ending {
+        Ending::Outcome(found) => (code(found), end(found), name(found)),
+        Ending::Spent => (test_calls::SPENT, 0, "spent".to_string()),
+        Ending::NoFrame => (test_calls::NO_FRAME, 0, "no frame".to_string()),
+    };
+    ([code, end, ran.moves], what)
+}
+
+/// Compares calls with the recognizer, and counts what was met.
+pub struct Comparison {
+    pub random: Random,
+    met: BTreeMap<(&'static str, String), u64>,
+}
+
+impl Comparison {
+    pub fn new(seed: u64) -> Comparison {
+        Comparison {
+            random: Random(seed),
+            met: BTreeMap::new(),
+        }
+    }
+
+    fn count(&mut self, call: &'static str, what: String) {
+        *self.met.entry((call, what)).or_insert(0) += 1;
+    }
+
+    pub fn question(&mut self, case: &Case, table: usize, work: usize) {
+        let mut handed = Handed::new(&mut self.random, case);
+        let mut room = Room::new(&mut self.random, [table, work, 0], 4);
+        let returned = test_calls::question(
+            handed.sheet.slice(),
+            handed.entry.slice(),
+            case.asked.variable,
+            case.asked.position,
+            room.table.slice(),
+            room.work.slice(),
+            room.answer.array(),
+        );
+        let expected = recognizer::question(case.question(), table, work);
+        let (code, same, what) = match &expected {
+            Ok(found) => (
+                0,
+                room.holds(&numbers(found), &found.table, &[]),
+                name(found.outcome),
+            ),
+            Err(number) => (100 + number, room.unchanged(), refused(*number)),
+        };
+        let answer = room.answer.slice();
+        assert!(
+            returned == code && same && handed.unchanged(),
+            "question over {table}, {work}: {returned} {answer:?}, not {what}\n{case}"
+        );
+        self.count("question", what);
+        if let Ok(found) = &expected {
+            self.count("cells", decided(found.cells));
+        }
+        as_program(case, table, work, &expected);
+    }
+
+    pub fn sheet(&mut self, case: &Case) {
+        let mut handed = Handed::new(&mut self.random, case);
+        let mut words = Lent::any(&mut self.random, 256);
+        let mut answer = Lent::any(&mut self.random, 4);
+        let returned = test_calls::sheet(handed.sheet.slice(), answer.array(), words.array());
+        let (code, same, what) = match recognizer::sheet(&case.sheet) {
+            Ok(([variables, start, endmarker], stored)) => (
+                0,
+                answer.holds(&[0, variables, start, endmarker]) && words.holds(&stored),
+                "read".to_string(),
+            ),
+            Err((number, line)) => (
+                100 + number,
+                answer.holds(&[number, line, 0, 0]) && words.unchanged(),
+                refused(number),
+            ),
+        };
+        let answer = answer.slice();
+        assert!(
+            returned == code && same && handed.unchanged(),
+            "sheet: {returned} {answer:?}, not {what}\n{case}"
+        );
+        self.count("sheet", what);
+    }
+
+    pub fn verdict(&mut self, case: &Case) {
+        let mut handed = Handed::new(&mut self.random, case);
+        let found = exported::verdict(handed.sheet.slice(), handed.entry.slice());
+        let expected = recognizer::verdict(&case.sheet, &case.entry);
+        assert_eq!(
+            found.map_err(|error| error.number()),
+            expected,
+            "verdict: {case}"
+        );
+        assert!(handed.unchanged(), "verdict: {case}");
+        let what = expected.map_or_else(refused, |code| code.to_string());
+        self.count("verdict", what);
+    }
+
+    pub fn judge(&mut self, case: &Case, table: usize, work: usize) {
+        let mut handed = Handed::new(&mut self.random, case);
+        let mut room = Room::new(&mut self.random, [table, work, 0], 4);
+        let returned = test_calls::judge(
+            handed.sheet.slice(),
+            handed.entry.slice(),
+            room.table.slice(),
+            room.work.slice(),
+            room.answer.array(),
+        );
+        let (same, what) = match recognizer::judge(&case.sheet, &case.entry, table, work) {
+            Ok(judged) => (
+                room.holds(&judged.numbers, &judged.table, &[]),
+                judged.code.to_string(),
+            ),
+            Err((number, line)) => (room.holds(&[9, number, line, 0], &[], &[]), refused(number)),
+        };
+        let answer = room.answer.slice();
+        assert!(
+            returned == 0 && same && handed.unchanged(),
+            "judge over {table}, {work}: {returned} {answer:?}, not {what}\n{case}"
+        );
+        self.count("judge", what);
+    }
+
+    pub fn run(&mut self, case: &Case, frames: usize, budget: u32) {
+        let mut handed = Handed::new(&mut self.random, case);
+        let mut lent = Lent::any(&mut self.random, frames);
+        let mut answer = Lent::any(&mut self.random, 3);
+        let returned = test_calls::run(
+            handed.sheet.slice(),
+            handed.entry.slice(),
+            case.asked,
+            lent.slice(),
+            budget,
+            answer.array(),
+        );
+        let (code, same, what) = match recognizer::run(case.question(), frames, budget) {
+            Ok(found) => {
+                let (numbers, what) = ran(found);
+                (0, answer.holds(&numbers) && lent.keeps_from(frames), what)
+            }
+            Err(number) => (
+                100 + number,
+                answer.unchanged() && lent.unchanged(),
+                refused(number),
+            ),
+        };
+        let answer = answer.slice();
+        assert!(
+            returned == code && same && handed.unchanged(),
+            "run over {frames} numbers, budget {budget}: {returned} {answer:?}, not {what}\n{case}"
+        );
+        self.count("run", what);
+    }
+
+    pub fn write(&mut self, case: &Case, table: usize, work: usize, output: usize) {
+        let mut handed = Handed::new(&mut self.random, case);
+        let mut room = Room::new(&mut self.random, [table, work, output], 5);
+        let returned = test_calls::write(
+            handed.sheet.slice(),
+            handed.entry.slice(),
+            case.asked,
+            room.table.slice(),
+            room.work.slice(),
+            room.output.slice(),
+            room.answer.array(),
+        );
+        let expected = recognizer::write(case.question(), table, work, output);
+        let (code, same, what) = match &expected {
+            Ok(Written { answered, lines }) => {
+                let mut five = numbers(answered).to_vec();
+                five.push(lines.len() as u32);
+                let same = room.holds(&five, &answered.table, &bytes(lines));
+                (0, same, name(answered.outcome))
+            }
+            Err(number) => (100 + number, room.unchanged(), refused(*number)),
+        };
+        let answer = room.answer.slice();
+        assert!(
+            returned == code && same && handed.unchanged(),
+            "write over {table}, {work}, {output}: {returned} {answer:?}, not {what}\n{case}"
+        );
+        self.count("write", what);
+        self.exported_write(case, [table, work, output], &expected);
+    }
+
+    /// The writer as the program calls it.
+    fn exported_write(&mut self, case: &Case, room: [usize; 3], expected: &Result<Written, u32>) {
+        let mut handed = Handed::new(&mut self.random, case);
+        let mut room = Room::new(&mut self.random, room, 0);
+        let found = exported::write(
+            handed.sheet.slice(),
+            handed.entry.slice(),
+            case.asked.variable,
+            case.asked.position,
+            room.table.slice(),
+            room.work.slice(),
+            room.output.slice(),
+        );
+        let (said, same) = match expected {
+            Ok(Written { answered, lines }) => (
+                Ok((answer(answered), lines.len() as u32)),
+                room.holds(&[], &answered.table, &bytes(lines)),
+            ),
+            Err(number) => (Err(*number), room.unchanged()),
+        };
+        assert_eq!(found.map_err(|error| error.number()), said, "write: {case}");
+        assert!(same && handed.unchanged(), "write: {case}");
+    }
+
+    pub fn check(&mut self, case: &Case, reading: &[u8]) {
+        let mut handed = Handed::new(&mut self.random, case);
+        let mut lent = Lent::of(&mut self.random, reading);
+        let mut answer = Lent::any(&mut self.random, 2);
+        let returned = test_calls::check(
+            handed.sheet.slice(),
+            handed.entry.slice(),
+            case.asked,
+            lent.slice(),
+            answer.array(),
+        );
+        let expected = recognizer::check(case.question(), reading);
+        let (code, same, what) = match expected {
+            Ok((outcome, end)) => (0, answer.holds(&[code(outcome), end]), name(outcome)),
+            Err(number) => (100 + number, answer.unchanged(), refused(number)),
+        };
+        let answer = answer.slice();
+        assert!(
+            returned == code && same && handed.unchanged() && lent.unchanged(),
+            "check: {returned} {answer:?}, not {what}\n{case}\n{}",
+            String::from_utf8_lossy(reading)
+        );
+        self.count("check", what);
+        exported_check(case, reading, expected);
+    }
+
+    /// A length around a limit, or of a few numbers.
+    fn around(&mut self, limit: usize) -> usize {
+        if self.random.one_in(4) {
+            return self.random.index(5);
+        }
+        (limit + self.random.index(5)).saturating_sub(2)
+    }
+
+    /// Lengths of table, work slice and output: two thirds of the time long enough.
+    fn lengths(&mut self, cells: usize) -> [usize; 3] {
+        let limits = [cells, cells, recognizer::LINE * cells];
+        if self.random.one_in(3) {
+            return limits.map(|limit| self.around(limit));
+        }
+        limits.map(|limit| limit + self.random.index(3))
+    }
+
+    /// Numbers for frames and a budget: around 3h and 2k - 1 where the pair has a derivation that is not too long to walk.
+    fn machine(&mut self, size: Option<Size>) -> (usize, u32) {
+        let random = &mut self.random;
+        let Some(Size { steps, height }) = size.filter(|size| size.steps < 20_000) else {
+            return (random.index(100), random.below(2000) as u32);
+        };
+        let (frames, moves) = (3 * height as usize, 2 * steps as u32 - 1);
+        let frames = match random.below(4) {
+            0 => random.index(5),
+            1 => frames + random.index(100),
+            _ => (frames + random.index(8)).saturating_sub(4),
+        };
+        let budget = match random.below(4) {
+            0 => random.below(5) as u32,
+            1 => u32::MAX - random.below(2) as u32,
+            _ => (moves + random.below(6) as u32).saturating_sub(3),
+        };
+        (frames, budget)
+    }
+
+    /// One question in every call: with slices of lengths around the limits, its own reading, and a changed one.
+    pub fn all(&mut self, case: &Case) {
+        let [table, work, output] = self.lengths(case.cells);
+        self.sheet(case);
+        self.question(case, table, work);
+        self.verdict(case);
+        self.judge(case, table, work);
+        let (frames, budget) = self.machine(recognizer::size(case.question()));
+        self.run(case, frames, budget);
+        self.write(case, table, work, output);
+        let own = recognizer::reading(case.question()).unwrap_or_default();
+        self.check(case, &bytes(&own));
+        let changed = questions::reading(&mut self.random, case, &own);
+        self.check(case, &changed);
+    }
+
+    /// So many random questions.
+    pub fn many(&mut self, questions: u64) {
+        for _ in 0..questions {
+            let case = questions::case(&mut self.random);
+            self.all(&case);
+        }
+        self.assert_met(questions / 2000);
+    }
+
+    /// Each answer and each refusal was met more often than this, and nothing else was met.
+    fn assert_met(&self, often: u64) {
+        let mut possible = BTreeSet::new();
+        for (call, answers, refusals) in ANSWERS {
+            possible.extend(answers.iter().map(|what| (call, what.to_string())));
+            possible.extend(refusals.iter().map(|number| (call, refused(*number))));
+        }
+        let met_often = self.met.iter().filter(|(_, met)| **met > often);
+        let met_often: BTreeSet<_> = met_often.map(|(key, _)| key.clone()).collect();
+        assert_eq!(met_often, possible, "{}", self.summary());
+        assert_eq!(self.met.len(), possible.len(), "{}", self.summary());
+    }
+
+    /// How often each answer and each refusal was met.
+    pub fn summary(&self) -> String {
+        let mut text = String::new();
+        for (call, _, _) in ANSWERS {
+            let of_call = self.met.iter().filter(|((of, _), _)| *of == call);
+            let (mut total, mut parts) = (0, Vec::new());
+            for ((_, what), met) in of_call {
+                total += met;
+                parts.push(format!("{what}: {met}"));
+            }
+            text += &format!("{call} {total}: {}\n", parts.join(", "));
+        }
+        text
+    }
+}

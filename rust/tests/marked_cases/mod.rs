@@ -1,0 +1,81 @@
+//! Document 01's marked entries: their sheets, and what is said of them.
+use entryreader::{Answer, Code, Pair, Refusal};
+
+/// Sheet H, of cases a to f.
+pub const H: &str = "    6    1   46    0    0
+    1    4    2    3    3
+    2    2   45    0    0
+    3    4    4    5    6
+    4    3    1    0    0
+    5    2   46    0    0
+    6    1    0    0    0
+";
+
+/// Case g.
+pub const G: &str = "    1    1   46    0    0
+    1    4    1    1    1
+";
+
+/// Case h.
+pub const THROUGH_SECOND: &str = "    3    1   46    0    0
+    1    4    2    1    3
+    2    0    0    0    0
+    3    1    0    0    0
+";
+
+/// Case i: a run of one byte.
+pub const I: &str = "    3    1   46    0    0
+    1    4    2    1    3
+    2    2   97    0    0
+    3    0    0    0    0
+";
+
+/// Case j.
+pub const J: &str = "    2    1   46    0    0
+    1    4    2    2    2
+";
+
+/// The reading of case a.
+pub const READING: &str = "       2       0       0       1       0       0
+       4       1       0       2       0       0
+       5       2       0       3       0       0
+       3       1       0       3       2       3
+       1       0       0       3       1       4
+";
+
+/// A marked entry: what the question about variable 1 at 0 is answered, and what the verdict is.
+pub struct Case {
+    pub sheet: &'static str,
+    pub entry: &'static str,
+    pub answer: Answer,
+    pub verdict: Result<Code, Refusal>,
+}
+
+/// Cases a and d to j; b and c are the machine's. Most have no endmarker at their end, so that the verdict is refused.
+pub fn cases() -> [Case; 8] {
+    let pair = |variable, position| Pair { variable, position };
+    let (named, cells) = (pair(5, 2), 5);
+    let end = Answer::End { named, cells };
+    let (named, cells) = (pair(2, 0), 2);
+    let missing = Answer::Missing { named, cells };
+    let named = pair(1, 0);
+    let loops = |cells| Answer::Loop { named, cells };
+    let success = |end, cells| Answer::Success { end, cells };
+    let unended = Err(Refusal::Endmarker);
+    [
+        (H, "-6.", success(3, 5), Ok(Code::Recognised)),
+        (H, "6.", success(2, 5), Ok(Code::Recognised)),
+        (H, "-6", end, unended),
+        (H, "x", Answer::Failure { cells: 5 }, unended),
+        (G, "", loops(1), unended),
+        (THROUGH_SECOND, "", loops(2), unended),
+        (I, "aa.", success(2, 7), Ok(Code::Partial)),
+        (J, "", missing, unended),
+    ]
+    .map(|(sheet, entry, answer, verdict)| Case {
+        sheet,
+        entry,
+        answer,
+        verdict,
+    })
+}

@@ -1,0 +1,554 @@
+//! `Reader`: the marked entries, memory that grows and is used again, refusals with their lines and sentences, the line at fault of a reading; and random
+//! questions beside the calls over lent slices and the recognizer.
+mod marked_cases;
+#[allow(dead_code, unused_imports)] // Other tests lend slices around the limits.
+mod questions;
+mod random;
+#[allow(dead_code, unused_imports)]
+// Other tests run the machine, and ask over slices that are too short.
+mod recognizer;
+
+use entryreader::{Answer, Claim, Error, Line, Pair, Reader, Refusal, Rule, Verdict, lent};
+use marked_cases::{G, H, I, J, READING, THROUGH_SECOND, cases};
+use questions::row;
+use random::Random;
+use recognizer::{Question, with_deep_stack};
+use std::collections::BTreeMap;
+
+/// The start of all sheets here.
+const START: Pair = Pair {
+    variable: 1,
+    position: 0,
+};
+
+fn reader(sheet: &str) -> Reader {
+    Reader::new(sheet.as_bytes()).expect("the sheet is accepted")
+}
+
+#[test]
+fn marked_entries() {
+    for case in cases() {
+        let mut reader = reader(case.sheet);
+        let entry = case.entry.as_bytes();
+        assert_eq!(reader.ask(entry, 1, 0), Ok(case.answer));
+        let reading = reader.reading(entry).expect("nothing is refused");
+        assert_eq!(reading.answer, case.answer);
+        let verdict = reader.verdict(entry).map(|verdict| verdict.code());
+        assert_eq!(verdict.map_err(|error| error.refusal()), case.verdict);
+    }
+}
+
+/// Verdicts with all their numbers.
+#[test]
+fn verdicts() {
+    let named = START;
+    let loops = |cells| Verdict::Loop { named, cells };
+    let (variable, position, cells) = (2, 0, 2);
+    let named = Pair { variable, position };
+    for (sheet, entry, verdict) in [
+        (H, "-6.", Verdict::Recognised { cells: 5 }),
+        (I, "aa.", Verdict::Partial { end: 2, cells: 7 }),
+        (H, "x.", Verdict::Failure { cells: 5 }),
+        (G, ".", loops(1)),
+        (THROUGH_SECOND, ".", loops(2)),
+        (J, ".", Verdict::Missing { named, cells }),
+    ] {
+        assert_eq!(reader(sheet).verdict(entry.as_bytes()), Ok(verdict));
+    }
+}
+
+#[test]
+fn sheet_h() {
+    let reader = reader(H);
+    assert_eq!((reader.variables(), reader.start()), (6, 1));
+    assert_eq!((reader.endmarker(), reader.sheet()), (b'.', H.as_bytes()));
+    let call = |first, then, otherwise| Rule::Call {
+        first,
+        then,
+        otherwise,
+    };
+    let expected = [
+        None,
+        Some(call(2, 3, 3)),
+        Some(Rule::Byte(45)),
+        Some(call(4, 5, 6)),
+        Some(Rule::Class(1)),
+        Some(Rule::Byte(46)),
+        Some(Rule::Fail),
+        None,
+    ];
+    let rules: Vec<Option<Rule>> = (0..8).map(|variable| reader.rule(variable)).collect();
+    assert_eq!(rules, expected);
+    assert_eq!(reader.rule(u32::MAX), None);
+}
+
+/// A line of a success, with the lines that it follows from.
+fn line(variable: u32, start: u32, end: u32, called: Option<(usize, usize)>) -> Line {
+    Line {
+        variable,
+        start,
+        success: true,
+        end,
+        first: called.map(|lines| lines.0),
+        second: called.map(|lines| lines.1),
+    }
+}
+
+/// Reading, claim and table of case a.
+#[test]
+fn case_a() {
+    let mut reader = reader(H);
+    let reading = reader.reading(b"-6.").expect("nothing is refused");
+    assert_eq!(reading.bytes, READING.as_bytes());
+    let lines = [
+        line(2, 0, 1, None),
+        line(4, 1, 2, None),
+        line(5, 2, 3, None),
+        line(3, 1, 3, Some((1, 2))),
+        line(1, 0, 3, Some((0, 3))),
+    ];
+    assert_eq!(reading.lines, lines);
+    let claim = reader.check(b"-6.", &reading.bytes);
+    assert_eq!(claim, Ok(Claim::Success { end: 3 }));
+    // A row for each variable, with positions 0 to 3.
+    let rows = [
+        [8, 0, 0, 0],
+        [6, 0, 0, 0],
+        [0, 8, 0, 0],
+        [0, 7, 0, 0],
+        [0, 0, 8, 0],
+        [0, 0, 0, 0],
+    ];
+    assert_eq!(reader.table(), rows.concat());
+}
+
+/// What a reader says of an entry without its first byte and of the whole entry, with the table and the answer.
+fn said(reader: &mut Reader, entry: &[u8]) -> (Vec<Result<Verdict, Error>>, Vec<u32>, Answer) {
+    let reading = reader.reading(entry).expect("nothing is refused");
+    assert_eq!(
+        reader.check(entry, &reading.bytes).is_ok(),
+        !reading.lines.is_empty()
+    );
+    let asked = reader.ask(entry, 1, 0).expect("nothing is refused");
+    assert_eq!(asked, reading.answer);
+    let table = reader.table().to_vec();
+    let verdicts = [&entry[1..], entry].map(|entry| reader.verdict(entry));
+    (verdicts.into(), table, asked)
+}
+
+/// A run of `a` and a full stop: the same reader on short and long entries says what a fresh one does, and after refusals too.
+#[test]
+fn grows_and_is_used_again() {
+    let entry = |length: usize| [&vec![b'a'; length - 1][..], b"."].concat();
+    let mut used = reader(I);
+    for length in [3, 4_096, 3, 1, 500, 2, 4_095, 1] {
+        let entry = entry(length);
+        assert_eq!(said(&mut used, &entry), said(&mut reader(I), &entry));
+        assert_eq!(used.table().len(), 3 * (length + 1));
+        // A refusal leaves the table as it was.
+        let table = used.table().to_vec();
+        let long = used.ask(&[b'a'; 4_097], 1, 0);
+        assert_eq!(long.map_err(|error| error.number()), Err(6));
+        assert_eq!(used.table(), table);
+    }
+    let longest = used.verdict(&entry(4_096));
+    // A pair of 1 and 2 at each position, and 3 where the run ends.
+    let (end, cells) = (4_095, 2 * 4_096 + 1);
+    assert_eq!(longest, Ok(Verdict::Partial { end, cells }));
+}
+
+/// Entries of over 4,096 bytes are refused by every call, whatever their bytes.
+#[test]
+fn long_entries() {
+    let mut reader = reader(H);
+    for length in [4_097, 4_098, 100_000] {
+        let entry = vec![0xFF; length];
+        let refused = |found: Option<Error>| {
+            let error = found.expect("it is refused");
+            assert_eq!((error.number(), error.line()), (6, None));
+            assert_eq!(error.to_string(), "the entry has over 4,096 bytes");
+        };
+        refused(reader.verdict(&entry).err());
+        refused(reader.ask(&entry, 1, 0).err());
+        refused(reader.reading(&entry).err());
+        refused(reader.check(&entry, READING.as_bytes()).err());
+    }
+}
+
+/// Every byte as an entry of its own, and before the endmarker: H takes digits only.
+#[test]
+fn any_bytes() {
+    let mut reader = reader(H);
+    for byte in 0..=255 {
+        let expected = match byte {
+            b'0'..=b'9' => Ok(Verdict::Recognised { cells: 5 }),
+            b'.' => Err(7),
+            _ => Ok(Verdict::Failure { cells: 5 }),
+        };
+        let found = reader
+            .verdict(&[byte, b'.'])
+            .map_err(|error| error.number());
+        assert_eq!(found, expected, "{byte}");
+        assert!(reader.ask(&[byte], 1, 0).is_ok(), "{byte}");
+    }
+}
+
+/// Number, line and sentence of an error.
+fn told(error: Error) -> (u32, Option<u32>, String) {
+    (error.number(), error.line(), error.to_string())
+}
+
+/// A sheet that is refused, with number, line and sentence.
+fn refused_sheet(sheet: &str, number: u32, line: Option<u32>, sentence: &str) {
+    let error = Reader::new(sheet.as_bytes()).expect_err("it is refused");
+    assert_eq!(told(error), (number, line, sentence.to_string()));
+    assert_eq!(error.refusal().number(), number);
+}
+
+#[test]
+fn refused_sheets() {
+    let first = row([2, 1, 46, 0, 0]);
+    let rule = row([1, 0, 0, 0, 0]);
+    refused_sheet(
+        "",
+        1,
+        None,
+        "the sheet is empty, has over 257 lines, or is not lines of 25 columns that end with a line feed",
+    );
+    refused_sheet(
+        &format!("{first}    1    0    0   00    0\n{rule}"),
+        2,
+        Some(2),
+        "line 2 of the sheet: a field that is no right-justified number without leading zeros",
+    );
+    refused_sheet(
+        &row([2, 3, 46, 0, 0]),
+        3,
+        Some(1),
+        "line 1 of the sheet: the count of variables, the start or the endmarker is out of range, or the last two fields are not 0",
+    );
+    refused_sheet(
+        &format!("{first}{rule}{rule}"),
+        4,
+        Some(3),
+        "line 3 of the sheet: a variable that is not in 1 to V, or not above that of the line before",
+    );
+    refused_sheet(
+        &format!("{first}{rule}{}", row([2, 3, 7, 0, 0])),
+        5,
+        Some(3),
+        "line 3 of the sheet: kind over 4, or operands that do not fit",
+    );
+}
+
+/// A refused entry has no line: 6 and 7.
+#[test]
+fn refused_entries() {
+    let mut reader = reader(H);
+    let long = "the entry has over 4,096 bytes";
+    let unended = "the entry does not end with the sheet's endmarker, or has it earlier too";
+    for (entry, number, sentence) in [
+        (&[b'.'; 4_097][..], 6, long),
+        (b"", 7, unended),
+        (b"6", 7, unended),
+        (b"6..", 7, unended),
+        (b"6.\r", 7, unended),
+    ] {
+        let error = reader.verdict(entry).expect_err("it is refused");
+        assert_eq!(told(error), (number, None, sentence.to_string()));
+    }
+}
+
+/// What is refused about a pair has no line either.
+#[test]
+fn refused_pairs() {
+    let mut reader = reader(H);
+    for (variable, position, refusal) in [
+        (0, 0, Refusal::Variable),
+        (7, 9, Refusal::Variable),
+        (u32::MAX, 0, Refusal::Variable),
+        (6, 3, Refusal::Place),
+        (1, u32::MAX, Refusal::Place),
+    ] {
+        let error = reader.ask(b"6.", variable, position);
+        let error = error.expect_err("it is refused");
+        assert_eq!((error.refusal(), error.line()), (refusal, None));
+    }
+}
+
+#[test]
+fn refused_texts() {
+    let deep = format!("S={}{}\n", "(".repeat(17), ")".repeat(17));
+    let wide = format!("S={}\n", "/".repeat(300));
+    for (text, refusal) in [
+        ("", Refusal::Text),
+        ("S=\nS=\n", Refusal::Text),
+        (&deep, Refusal::Nesting),
+        (&wide, Refusal::Allowance),
+    ] {
+        let error = Reader::from_shorthand(text.as_bytes()).expect_err("it is refused");
+        assert_eq!((error.refusal(), error.line()), (refusal, None));
+    }
+}
+
+/// Letters are named by first appearance; quoted ones are none, and a helper has its number.
+#[test]
+fn names_of_the_shorthand() {
+    let text = b"S='Q'B['''A]/'='\nA=Z'\xC9'\nB=\n";
+    let reader = Reader::from_shorthand(text).expect("it is accepted");
+    let names: Vec<String> = (0..6).map(|variable| reader.name(variable)).collect();
+    assert_eq!(names, ["0", "S", "B", "A", "Z", "5"]);
+    assert_eq!((reader.start(), reader.endmarker()), (1, b'.'));
+    // Z has no line.
+    assert_eq!(reader.rule(4), None);
+    let sheet = Reader::new(reader.sheet()).expect("it is accepted");
+    assert_eq!(sheet.name(1), "1");
+}
+
+/// The number and the line that a reading is refused with, by the recognizer: for 12 and 13 that of the shortest front of whole lines that is.
+fn refused_reading(question: Question, reading: &[u8]) -> Option<(u32, Option<u32>)> {
+    let number = recognizer::check(question, reading).err()?;
+    let faulty = |lines: &usize| {
+        let front = &reading[..recognizer::LINE * lines];
+        matches!(recognizer::check(question, front), Err(12 | 13))
+    };
+    let whole = reading.len().is_multiple_of(recognizer::LINE);
+    let line = match number {
+        12 | 13 if whole => (1..=reading.len() / recognizer::LINE).find(faulty),
+        _ => None,
+    };
+    Some((number, line.map(|line| u32::try_from(line).expect("few"))))
+}
+
+/// What the reader refuses a reading about its start with, which is what the recognizer does.
+fn check(reader: &Reader, entry: &[u8], reading: &[u8]) -> Option<(u32, Option<u32>)> {
+    let asked = Pair {
+        variable: reader.start(),
+        position: 0,
+    };
+    let question = Question {
+        sheet: reader.sheet(),
+        entry,
+        asked,
+    };
+    let refused = reader.check(entry, reading).err();
+    let refused = refused.map(|error| (error.number(), error.line()));
+    let shown = String::from_utf8_lossy(reading);
+    assert_eq!(refused, refused_reading(question, reading), "{shown}");
+    refused
+}
+
+/// The reading of case a with one byte changed, at each position: 12 and 13 at each of its lines.
+#[test]
+fn one_byte_of_a_reading() {
+    let reader = reader(H);
+    let mut met = BTreeMap::new();
+    for index in 0..READING.len() {
+        for byte in *b" 0123456789\n-a\xB2" {
+            let mut reading = READING.as_bytes().to_vec();
+            reading[index] = byte;
+            let refused = check(&reader, b"-6.", &reading);
+            *met.entry(refused).or_insert(0) += 1;
+        }
+    }
+    for refused in (1..=5).flat_map(|line| [12, 13].map(|number| (number, Some(line)))) {
+        let often = met.get(&Some(refused)).is_some_and(|met| 10 < *met);
+        assert!(often, "{refused:?}: {met:?}");
+    }
+    assert!(met.contains_key(&None), "{met:?}");
+    let mut reading = READING.as_bytes().to_vec();
+    reading[49] = b'x';
+    let error = reader.check(b"-6.", &reading).expect_err("it is refused");
+    let sentence = "line 2 of the reading: not six fields of 8 columns and a line feed";
+    assert_eq!(told(error), (12, Some(2), sentence.to_string()));
+}
+
+/// A length that is no multiple of 49 has no line at fault, and neither has a reading of another pair.
+#[test]
+fn readings_without_a_line_at_fault() {
+    let reader = reader(H);
+    for (length, refused) in [
+        (245, None),
+        (244, Some((12, None))),
+        (1, Some((12, None))),
+        (0, Some((14, None))),
+        (196, Some((14, None))),
+    ] {
+        let reading = &READING.as_bytes()[..length];
+        assert_eq!(check(&reader, b"-6.", reading), refused, "{length}");
+    }
+}
+
+/// How often each answer and each refusal was met.
+#[derive(Default)]
+struct Met(BTreeMap<String, u64>);
+
+impl Met {
+    fn count(&mut self, what: String) {
+        *self.0.entry(what).or_insert(0) += 1;
+    }
+
+    /// What a call found, by the name of its kind.
+    fn found<T>(&mut self, call: &str, found: &Result<T, Error>, kind: impl Fn(&T) -> String) {
+        let what = match found {
+            Ok(found) => kind(found),
+            Err(error) => format!("refused {}", error.number()),
+        };
+        self.count(format!("{call} {what}"));
+    }
+
+    /// Each of these was met more often than this, and nothing else was met.
+    fn assert_met(&self, expected: &[&str], often: u64) {
+        let met: Vec<&str> = self.0.keys().map(String::as_str).collect();
+        let mut expected = expected.to_vec();
+        expected.sort();
+        assert_eq!(met, expected, "{:?}", self.0);
+        assert!(self.0.values().all(|met| often < *met), "{:?}", self.0);
+    }
+}
+
+/// The name of an answer's kind.
+fn kind(answer: &Answer) -> String {
+    let kind = match answer {
+        Answer::Success { .. } => "success",
+        Answer::Failure { .. } => "failure",
+        Answer::Loop { .. } => "loop",
+        Answer::Missing { .. } => "missing",
+        Answer::End { .. } => "end",
+    };
+    kind.to_string()
+}
+
+/// A reader with an entry, and beside it a table and a work slice of just the length that the entry needs.
+struct Beside<'a> {
+    reader: &'a mut Reader,
+    entry: &'a [u8],
+    table: Vec<u32>,
+    work: Vec<u32>,
+}
+
+impl<'a> Beside<'a> {
+    fn new(reader: &'a mut Reader, entry: &'a [u8]) -> Beside<'a> {
+        let variables = usize::try_from(reader.variables()).expect("at most 256");
+        let cells = variables * (entry.len() + 1);
+        Beside {
+            reader,
+            entry,
+            table: vec![7; cells],
+            work: vec![7; cells],
+        }
+    }
+
+    /// The verdict beside the two calls that give it; that with 1,024 cells of its own where they suffice.
+    fn verdict(&mut self, met: &mut Met) {
+        let found = self.reader.verdict(self.entry);
+        let (sheet, table, work) = (self.reader.sheet(), &mut self.table, &mut self.work);
+        assert_eq!(found, lent::judge(sheet, self.entry, table, work));
+        if found.is_ok() {
+            assert_eq!(self.reader.table(), self.table);
+        }
+        met.found("verdict", &found, |verdict| verdict.code().to_string());
+        if self.table.len() <= 1_024 {
+            let own = lent::verdict(sheet, self.entry);
+            assert_eq!(found.map(|verdict| verdict.code()), own);
+            met.found("own cells", &own, |code| code.to_string());
+        }
+    }
+
+    fn question(&mut self, Pair { variable, position }: Pair, met: &mut Met) {
+        let found = self.reader.ask(self.entry, variable, position);
+        let (sheet, table, work) = (self.reader.sheet(), &mut self.table, &mut self.work);
+        let answer = lent::question(sheet, self.entry, variable, position, table, work);
+        assert_eq!(found, answer);
+        if found.is_ok() {
+            assert_eq!(self.reader.table(), self.table);
+        }
+        met.found("ask", &found, kind);
+    }
+
+    /// The reading: its answer is the question's, its lines are its bytes, and it passes; with a byte changed it is refused at the right line.
+    fn reading(&mut self, random: &mut Random, met: &mut Met) {
+        let found = self.reader.reading(self.entry);
+        met.found("reading", &found, |reading| kind(&reading.answer));
+        let Ok(mut reading) = found else { return };
+        let start = self.reader.start();
+        assert_eq!(self.reader.ask(self.entry, start, 0), Ok(reading.answer));
+        assert_eq!(recognizer::bytes(&numbers(&reading.lines)), reading.bytes);
+        let claim = self.reader.check(self.entry, &reading.bytes);
+        let claim = claim.map_err(|error| error.number());
+        assert_eq!(claim, claimed(reading.answer));
+        // The recognizer looks at each front of it.
+        if (1..=100).contains(&reading.lines.len()) {
+            let index = random.index(reading.bytes.len());
+            reading.bytes[index] = random.pick(b" 0123456789\n");
+            let refused = check(self.reader, self.entry, &reading.bytes);
+            met.count(format!(
+                "changed {}",
+                refused.map_or(0, |(number, _)| number)
+            ));
+        }
+    }
+}
+
+/// The six numbers of each line, lines counted from 1.
+fn numbers(lines: &[Line]) -> Vec<recognizer::Line> {
+    let number = |line: Option<usize>| line.map_or(0, |line| u32::try_from(line + 1).expect("few"));
+    let numbers = lines.iter().map(|line| {
+        let failed = u32::from(!line.success);
+        let Pair { variable, position } = line.pair();
+        let (first, second) = (number(line.first), number(line.second));
+        [variable, position, failed, line.end, first, second]
+    });
+    numbers.collect()
+}
+
+/// What the checker says of the reading of an answer: loop, missing and end have no lines.
+fn claimed(answer: Answer) -> Result<Claim, u32> {
+    match answer {
+        Answer::Success { end, .. } => Ok(Claim::Success { end }),
+        Answer::Failure { .. } => Ok(Claim::Failure),
+        _ => Err(14),
+    }
+}
+
+/// The sheet of a random question; its entry, another one and its entry again with one reader.
+fn random_question(random: &mut Random, met: &mut Met) {
+    let case = questions::case(random);
+    let found = Reader::new(&case.sheet);
+    met.found("new", &found, |_| "read".to_string());
+    let refused = found.as_ref().err();
+    let refused = refused.map(|error| (error.number(), error.line().unwrap_or(0)));
+    assert_eq!(refused, recognizer::sheet(&case.sheet).err(), "{case}");
+    let Ok(mut reader) = found else { return };
+    let length = random.index(20);
+    let other = questions::entry(random, length);
+    for entry in [&case.entry, &other, &case.entry] {
+        let mut beside = Beside::new(&mut reader, entry);
+        beside.verdict(met);
+        beside.question(case.asked, met);
+        beside.reading(random, met);
+    }
+}
+
+/// Everything that the calls can say.
+#[rustfmt::skip]
+const POSSIBLE: [&str; 39] = [
+    "new read", "new refused 1", "new refused 2", "new refused 3", "new refused 4", "new refused 5",
+    "verdict recognised", "verdict partial", "verdict failure", "verdict loop", "verdict missing", "verdict end", "verdict refused 6", "verdict refused 7",
+    "own cells recognised", "own cells partial", "own cells failure", "own cells loop", "own cells missing", "own cells end", "own cells refused 7",
+    "ask success", "ask failure", "ask loop", "ask missing", "ask end", "ask refused 6", "ask refused 8", "ask refused 9",
+    "reading success", "reading failure", "reading loop", "reading missing", "reading end", "reading refused 6",
+    "changed 0", "changed 12", "changed 13", "changed 14",
+];
+
+#[test]
+fn random_questions() {
+    with_deep_stack(|| {
+        let mut random = Random(31);
+        let mut met = Met::default();
+        for _ in 0..6_000 {
+            random_question(&mut random, &mut met);
+        }
+        met.assert_met(&POSSIBLE, 5);
+    });
+}

@@ -1,0 +1,164 @@
+//! Every refusal that the two calls have, 1 to 10, under its conditions and in its order; nothing is changed by one.
+use entryreader::{Code, Refusal, lent};
+
+const GOOD: &str =
+    "    2    1   46    0    0\n    1    4    2    2    2\n    2    2   97    0    0\n";
+
+/// The verdict, or the refusal.
+fn verdict(sheet: &[u8], entry: &[u8]) -> Result<Code, Refusal> {
+    lent::verdict(sheet, entry).map_err(|error| error.refusal())
+}
+
+fn refused_by_both(sheet: &[u8], entry: &[u8], number: u32) {
+    let refusal = Refusal::from_number(number).unwrap();
+    assert_eq!(
+        verdict(sheet, entry),
+        Err(refusal),
+        "{}",
+        String::from_utf8_lossy(sheet)
+    );
+    question_refused(sheet, entry, 1, 0, 1024, 1024, number);
+}
+
+fn question_refused(
+    sheet: &[u8],
+    entry: &[u8],
+    variable: u32,
+    position: u32,
+    table: usize,
+    work: usize,
+    number: u32,
+) {
+    let refusal = Refusal::from_number(number).unwrap();
+    let (mut table, mut work) = (vec![7; table], vec![9; work]);
+    let answer = lent::question(sheet, entry, variable, position, &mut table, &mut work);
+    assert_eq!(
+        answer.map_err(|error| error.refusal()),
+        Err(refusal),
+        "{}",
+        String::from_utf8_lossy(sheet)
+    );
+    assert!(table.iter().all(|x| *x == 7) && work.iter().all(|x| *x == 9));
+}
+
+/// The good sheet with one line in the position of another, counted from 1.
+fn with_line(number: usize, line: &str) -> Vec<u8> {
+    let mut lines: Vec<&str> = GOOD.lines().collect();
+    lines[number - 1] = line;
+    (lines.join("\n") + "\n").into_bytes()
+}
+
+#[test]
+fn good_sheet() {
+    assert_eq!(verdict(GOOD.as_bytes(), b"."), Ok(Code::Failure));
+}
+
+#[test]
+fn one_not_lines() {
+    refused_by_both(b"", b".", 1);
+    refused_by_both(&GOOD.as_bytes()[..77], b".", 1);
+    refused_by_both((GOOD.to_string() + " ").as_bytes(), b".", 1);
+    refused_by_both(GOOD.replacen('\n', " ", 1).as_bytes(), b".", 1);
+    let line = "    1    0    0    0    0\n";
+    refused_by_both(line.repeat(258).as_bytes(), b".", 1);
+}
+
+#[test]
+fn two_fields() {
+    for line in [
+        "    2   01   46    0    0",
+        "    2   1    46    0    0",
+        "    2    1   4a    0    0",
+        "    2    1   46         0",
+        "   +2    1   46    0    0",
+        "    2    1  -46    0    0",
+    ] {
+        refused_by_both(&with_line(1, line), b".", 2);
+    }
+    refused_by_both(&with_line(2, "    1    4    2    2   \n2"), b".", 2);
+    refused_by_both(&with_line(3, "    9    9    x    0    0"), b".", 2);
+}
+
+#[test]
+fn three_line_1() {
+    for line in [
+        "    0    1   46    0    0",
+        "  257    1   46    0    0",
+        "99999    1   46    0    0",
+        "    2    0   46    0    0",
+        "    2    3   46    0    0",
+        "    2    1  256    0    0",
+        "    2    1   46    1    0",
+        "    2    1   46    0    1",
+    ] {
+        refused_by_both(&with_line(1, line), b".", 3);
+    }
+}
+
+#[test]
+fn four_variables() {
+    refused_by_both(&with_line(2, "    0    4    2    2    2"), b".", 4);
+    refused_by_both(&with_line(2, "    3    4    2    2    2"), b".", 4);
+    refused_by_both(&with_line(3, "    1    2   97    0    0"), b".", 4);
+    refused_by_both(&with_line(3, "    1    9   97    0    0"), b".", 4);
+}
+
+#[test]
+fn five_rules() {
+    for line in [
+        "    2    5    0    0    0",
+        "    2    0    1    0    0",
+        "    2    1    0    1    0",
+        "    2    2  256    0    0",
+        "    2    2   97    1    0",
+        "    2    3    0    0    0",
+        "    2    3    7    0    0",
+        "    2    3    1    0    1",
+        "    2    4    0    1    1",
+        "    2    4    1    3    1",
+        "    2    4    1    1    0",
+    ] {
+        refused_by_both(&with_line(3, line), b".", 5);
+    }
+}
+
+#[test]
+fn six_long_entry() {
+    refused_by_both(GOOD.as_bytes(), &[b'a'; 4097], 6);
+    question_refused(GOOD.as_bytes(), &[b'a'; 4097], 0, 9999, 0, 0, 6);
+}
+
+#[test]
+fn seven_endmarker() {
+    for entry in ["", "a", "a.a", ".a", "..", "a.a."] {
+        let refused = Err(Refusal::Endmarker);
+        assert_eq!(verdict(GOOD.as_bytes(), entry.as_bytes()), refused);
+    }
+    // 7 comes before 10.
+    assert_eq!(
+        verdict(GOOD.as_bytes(), &[b'a'; 4096]),
+        Err(Refusal::Endmarker)
+    );
+}
+
+#[test]
+fn eight_and_nine() {
+    for variable in [0, 3, u32::MAX] {
+        question_refused(GOOD.as_bytes(), b"aa", variable, 3, 0, 0, 8);
+    }
+    for position in [3, 4097, u32::MAX] {
+        question_refused(GOOD.as_bytes(), b"aa", 2, position, 0, 0, 9);
+    }
+}
+
+#[test]
+fn ten_room() {
+    question_refused(GOOD.as_bytes(), b"aa", 2, 2, 5, 6, 10);
+    question_refused(GOOD.as_bytes(), b"aa", 2, 2, 6, 5, 10);
+    question_refused(GOOD.as_bytes(), b"aa", 2, 2, 0, 0, 10);
+    let mut entry = vec![b'a'; 511];
+    *entry.last_mut().unwrap() = b'.';
+    assert_eq!(verdict(GOOD.as_bytes(), &entry), Ok(Code::Partial));
+    entry.insert(0, b'a');
+    assert_eq!(verdict(GOOD.as_bytes(), &entry), Err(Refusal::Room));
+}
