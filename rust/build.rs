@@ -5,21 +5,18 @@ use std::fs::{self, File, OpenOptions};
 use std::io::{self, Write};
 use std::os::unix::fs::FileTypeExt;
 use std::path::{Path, PathBuf};
-use std::process::{Command, ExitCode};
+use std::process::Command;
 
 /// The folder with libraries that were made before.
 const LIBRARIES: &str = "ENTRYREADER_LIBRARIES";
 
-fn main() -> ExitCode {
+fn main() {
     println!("cargo::rerun-if-env-changed={LIBRARIES}");
     println!("cargo::rerun-if-changed=../crates");
     println!("cargo::rerun-if-changed=../crates.txt");
-    match link() {
-        Ok(()) => ExitCode::SUCCESS,
-        Err(sentence) => {
-            println!("cargo::error={}", sentence.replace('\n', " "));
-            ExitCode::FAILURE
-        }
+    // Cargo ends with the sentence, and shows nothing else of this script.
+    if let Err(sentence) = link() {
+        println!("cargo::error={}", sentence.replace('\n', " "));
     }
 }
 
@@ -71,18 +68,19 @@ fn make_all(names: &[&str], out: &Path) -> Result<(), String> {
         lock.lock()
             .map_err(|error| format!("{}: {error}", list.display()))?;
     }
+    announce(&format!(
+        "proving and compiling {} with `rt`: about four minutes the first time, seconds later",
+        names.join(" and ")
+    ));
     for name in names {
-        make(&root, name)?;
+        make(&root, out, name)?;
         copy(&root.join("target/staticlib"), out, name)?;
     }
     Ok(())
 }
 
 /// Proves a crate and makes its library.
-fn make(root: &Path, name: &str) -> Result<(), String> {
-    announce(&format!(
-        "proving and compiling the crate {name} with `rt`: two to five minutes the first time, seconds later"
-    ));
+fn make(root: &Path, out: &Path, name: &str) -> Result<(), String> {
     let made = Command::new("rt")
         .args(["staticlib", name])
         .current_dir(root)
@@ -96,13 +94,12 @@ fn make(root: &Path, name: &str) -> Result<(), String> {
     if made.status.success() {
         return Ok(());
     }
-    eprintln!(
-        "{}{}",
-        String::from_utf8_lossy(&made.stdout),
-        String::from_utf8_lossy(&made.stderr)
-    );
+    let log = out.join(format!("{name}.log"));
+    let written = fs::write(&log, [made.stdout, made.stderr].concat());
+    written.map_err(|error| format!("{}: {error}", log.display()))?;
     Err(format!(
-        "`rt staticlib {name}` failed: what it printed stands below"
+        "`rt staticlib {name}` failed: {} has what it printed",
+        log.display()
     ))
 }
 

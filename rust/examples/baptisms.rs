@@ -1,8 +1,5 @@
-//! Reads the entries of a register, one on each line, and prints the name and the year of each.
-use entryreader::Reader;
-
-/// The variables of the sheet that stand for the name and for the year.
-const PARTS: [u32; 2] = [2, 5];
+//! Reads a register with an entry on each line, and prints the name and the year of each.
+use entryreader::{Reader, shown};
 
 fn main() -> Result<(), Box<dyn std::error::Error>> {
     let mut reader = Reader::new(&std::fs::read("baptism.txt")?)?;
@@ -11,12 +8,12 @@ fn main() -> Result<(), Box<dyn std::error::Error>> {
         match reader.verdict(entry) {
             Ok(verdict) if verdict.is_recognised() => {
                 let reading = reader.reading(entry)?;
-                let parts =
-                    PARTS.map(|variable| reading.taken(variable, entry).unwrap_or_default());
-                println!("{}, {}", parts[0].escape_ascii(), parts[1].escape_ascii());
+                // On this sheet variable 2 is the name, and 5 the year.
+                let part = |variable| shown(reading.taken(variable, entry).unwrap_or_default());
+                println!("{}, {}", part(2), part(5));
             }
-            Ok(verdict) => println!("{}: {}", entry.escape_ascii(), verdict.code()),
-            Err(error) => println!("{}: {error}", entry.escape_ascii()),
+            Ok(verdict) => println!("{}: {}", shown(entry), verdict.code()),
+            Err(error) => println!("{}: {error}", shown(entry)),
         }
     }
     Ok(())

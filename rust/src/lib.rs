@@ -34,6 +34,7 @@ mod reader;
 mod reading;
 mod refusal;
 mod rule;
+mod shown;
 #[cfg(feature = "test-calls")]
 pub mod test_calls;
 
@@ -42,3 +43,4 @@ pub use reader::Reader;
 pub use reading::{Line, Reading};
 pub use refusal::{Error, Refusal};
 pub use rule::Rule;
+pub use shown::shown;

@@ -1,5 +1,5 @@
 //! How many entries are of each kind, and where the first ones are.
-use entryreader::{Code, Error, Refusal, Verdict};
+use entryreader::{Code, Error, Refusal, Verdict, shown};
 use std::fmt;
 use std::time::Instant;
 
@@ -139,7 +139,7 @@ fn beginning(entry: &[u8]) -> String {
     let mut text = String::new();
     let mut room = CHARACTERS;
     for byte in entry {
-        let shown = escaped(*byte);
+        let shown = shown(&[*byte]);
         let Some(left) = room.checked_sub(shown.chars().count()) else {
             return format!("\"{text}\"...");
         };
@@ -147,13 +147,4 @@ fn beginning(entry: &[u8]) -> String {
         text += &shown;
     }
     format!("\"{text}\"")
-}
-
-/// A byte of ISO 8859-1 as it is shown.
-fn escaped(byte: u8) -> String {
-    match byte {
-        b'\\' => "\\\\".to_string(),
-        32..=126 | 161..=172 | 174..=255 => char::from(byte).to_string(),
-        _ => format!("\\x{byte:02X}"),
-    }
 }

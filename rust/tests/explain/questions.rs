@@ -1,0 +1,296 @@
+//! Trees, rounds and chains on random questions, beside the table that the question leaves.
+use crate::program::{SHEET, run};
+use crate::random::Random;
+use entryreader::{Answer, Pair, Reader, Rule};
+use std::collections::HashSet;
+
+/// How many questions are asked, and how many of each kind there are at least.
+const QUESTIONS: usize = 700;
+const ENOUGH: usize = 25;
+
+/// A row of a printed tree.
+#[derive(Clone, Copy, Debug, PartialEq)]
+struct Row {
+    depth: usize,
+    pair: Pair,
+    again: bool,
+    cell: u32,
+}
+
+/// What was met.
+#[derive(Default, Debug)]
+struct Met {
+    successes: usize,
+    failures: usize,
+    loops: usize,
+    missing: usize,
+    ends: usize,
+    again: usize,
+    long_rounds: usize,
+    rounds_behind: usize,
+}
+
+impl Met {
+    fn count(&mut self, answer: Answer) {
+        *match answer {
+            Answer::Success { .. } => &mut self.successes,
+            Answer::Failure { .. } => &mut self.failures,
+            Answer::Loop { .. } => &mut self.loops,
+            Answer::Missing { .. } => &mut self.missing,
+            Answer::End { .. } => &mut self.ends,
+        } += 1;
+    }
+}
+
+/// A sheet: variable 1 calls others, the others are anything. In half of the sheets variables call later ones only, so that there are fewer loops.
+fn sheet(random: &mut Random) -> String {
+    let variables = 3 + random.below(9);
+    let loops = random.one_in(2);
+    let mut text = format!("{variables:5}    1   46    0    0\n");
+    for variable in 1..=variables {
+        let above = if loops {
+            0
+        } else {
+            variable.min(variables - 1)
+        };
+        let call = [(); 3].map(|()| above + 1 + random.below(variables - above));
+        let [kind, first, second, third] = match random.below(10) {
+            0 if variable != 1 => continue,
+            1 if variable != 1 => [random.below(2), 0, 0, 0],
+            2..=4 if variable != 1 => [2, random.pick(&[46, 97, 233]), 0, 0],
+            5 if variable != 1 => [3, random.pick(&[3, 5]), 0, 0],
+            _ => [4, call[0], call[1], call[2]],
+        };
+        text += &format!("{variable:5}{kind:5}{first:5}{second:5}{third:5}\n");
+    }
+    text
+}
+
+/// An entry. An argument of a program has no byte 0.
+fn entry(random: &mut Random) -> Vec<u8> {
+    let length = random.index(8);
+    (0..length).map(|_| random.pick(b"aa\xE9\x01.")).collect()
+}
+
+fn pair(text: &str) -> Pair {
+    let (variable, position) = text.split_once(" at ").expect("a pair");
+    let number = |text: &str| text.parse().expect("a number");
+    Pair {
+        variable: number(variable),
+        position: number(position),
+    }
+}
+
+/// What a printed line of a tree says.
+fn row(line: &str) -> Row {
+    let text = line.trim_start();
+    let blanks = line.len() - text.len();
+    let (depth, text) = match text.strip_prefix('[') {
+        Some(text) => {
+            let (depth, text) = text.split_once("] ").expect("a level");
+            (depth.parse().expect("a number"), text)
+        }
+        None => (blanks / 2, text),
+    };
+    let (name, rest) = text.split_once(": ").expect("a pair and its rule");
+    let pair = pair(name);
+    let cell = match rest.rsplit_once(" to ") {
+        _ if rest.ends_with(". Failed") => 1,
+        _ if rest.ends_with(". Took nothing") => 5 + pair.position,
+        Some((_, end)) => 5 + end.parse::<u32>().expect("a number"),
+        None => panic!("no outcome: {line}"),
+    };
+    Row {
+        depth,
+        pair,
+        again: rest.starts_with("as above. "),
+        cell,
+    }
+}
+
+/// A sheet, an entry, and the table that the question about variable 1 at 0 left.
+struct Asked<'a> {
+    reader: &'a Reader,
+    length: usize,
+}
+
+impl Asked<'_> {
+    fn cell(&self, pair: Pair) -> u32 {
+        let index = |number: u32| usize::try_from(number).expect("an index");
+        let row = index(pair.variable - 1) * (self.length + 1);
+        self.reader.table()[row + index(pair.position)]
+    }
+
+    /// The pairs that a pair calls, as far as its first one lets it.
+    fn called(&self, at: Pair) -> Vec<Pair> {
+        let Some(Rule::Call {
+            first,
+            then,
+            otherwise,
+        }) = self.reader.rule(at.variable)
+        else {
+            return Vec::new();
+        };
+        let pair = |variable, position| Pair { variable, position };
+        let first = pair(first, at.position);
+        match self.cell(first) {
+            1 => vec![first, pair(otherwise, at.position)],
+            2..=4 => vec![first],
+            success => vec![first, pair(then, success - 5)],
+        }
+    }
+
+    /// The rows of the tree below a pair.
+    fn rows(&self, pair: Pair, depth: usize, shown: &mut HashSet<Pair>, rows: &mut Vec<Row>) {
+        let again = !shown.insert(pair);
+        let cell = self.cell(pair);
+        rows.push(Row {
+            depth,
+            pair,
+            again,
+            cell,
+        });
+        if !again {
+            for called in self.called(pair) {
+                self.rows(called, depth + 1, shown, rows);
+            }
+        }
+    }
+
+    /// The pairs whose cells are not blank.
+    fn reached(&self) -> HashSet<Pair> {
+        let pairs = (1..=self.reader.variables()).flat_map(|variable| {
+            let last = u32::try_from(self.length).expect("a position");
+            (0..=last).map(move |position| Pair { variable, position })
+        });
+        pairs.filter(|pair| self.cell(*pair) != 0).collect()
+    }
+
+    /// The printed tree is that of the table, and each pair that is reached stands in it once in full.
+    fn compare_tree(&self, printed: &str, met: &mut Met) {
+        let rows: Vec<Row> = printed.lines().map(row).collect();
+        let mut expected = Vec::new();
+        self.rows(QUESTION, 0, &mut HashSet::new(), &mut expected);
+        assert_eq!(rows, expected);
+        let full: Vec<Pair> = rows
+            .iter()
+            .filter(|row| !row.again)
+            .map(|row| row.pair)
+            .collect();
+        assert_eq!(full.len(), self.reached().len());
+        assert_eq!(full.into_iter().collect::<HashSet<Pair>>(), self.reached());
+        met.again += rows.iter().filter(|row| row.again).count();
+    }
+
+    /// Each pair of the printed chain waits, and for the next; the last waits for the named one. The pairs of the chain.
+    fn compare_chain(&self, printed: &str, named: Pair, outcome: u32) -> Vec<Pair> {
+        let lines = || printed.lines().filter(|line| !line.starts_with("Here"));
+        let steps = lines().filter(|line| !line.starts_with(' '));
+        let steps: Vec<Pair> = steps
+            .filter_map(|line| {
+                line.split_once(": ")
+                    .filter(|(name, _)| !name.contains(" has "))
+            })
+            .map(|(name, _)| pair(name))
+            .collect();
+        let calls: Vec<(Pair, Pair)> = lines().filter_map(call).collect();
+        let awaited = steps
+            .iter()
+            .map(|step| *self.called(*step).last().expect("it calls"));
+        let expected: Vec<(Pair, Pair)> = steps.iter().copied().zip(awaited).collect();
+        assert_eq!(calls, expected);
+        let ends: Vec<Pair> = calls.iter().map(|(_, awaited)| *awaited).collect();
+        let following: Vec<Pair> = steps.iter().skip(1).copied().chain([named]).collect();
+        assert_eq!(ends, following);
+        assert_eq!(steps.first(), Some(&QUESTION));
+        assert!(steps.iter().all(|step| self.cell(*step) == outcome));
+        assert_eq!(self.cell(named), outcome);
+        let distinct: HashSet<Pair> = steps.iter().copied().collect();
+        assert_eq!(distinct.len(), steps.len());
+        steps
+    }
+}
+
+/// Which pair calls which, in a printed line.
+fn call(line: &str) -> Option<(Pair, Pair)> {
+    let (one, other) = line.strip_prefix("  ")?.split_once(" calls ")?;
+    let one = one.strip_prefix("so ").unwrap_or(one);
+    let other = other
+        .strip_suffix(" again, having taken no byte")
+        .unwrap_or(other);
+    Some((pair(one), pair(other)))
+}
+
+const QUESTION: Pair = Pair {
+    variable: 1,
+    position: 0,
+};
+
+/// Compares what is printed of a question.
+fn compare(sheet: &str, entry: &[u8], met: &mut Met) {
+    let mut reader = Reader::new(sheet.as_bytes()).expect("a sheet");
+    let answer = reader.ask(entry, 1, 0).expect("a question");
+    let recognised = reader
+        .clone()
+        .verdict(entry)
+        .is_ok_and(|verdict| verdict.is_recognised());
+    let asked = Asked {
+        reader: &reader,
+        length: entry.len(),
+    };
+    let run = run(&[SHEET, b"--", entry], sheet.as_bytes());
+    assert_eq!((run.status == 0, run.complaint.as_str()), (recognised, ""));
+    let mut parts = run.printed.trim_end().rsplit("\n\n");
+    let mut last = || parts.next().expect("a part");
+    met.count(answer);
+    match answer {
+        Answer::Success { .. } | Answer::Failure { .. } => asked.compare_tree(last(), met),
+        Answer::Loop { named, .. } => {
+            let advice = last();
+            assert!(advice.ends_with(&format!("before it comes back to {named}.")));
+            let steps = asked.compare_chain(last(), named, 2);
+            let start = steps.iter().position(|step| *step == named);
+            let start = start.expect("the round comes back to a pair of its own");
+            assert!(
+                steps[start..]
+                    .iter()
+                    .all(|step| step.position == named.position)
+            );
+            met.long_rounds += usize::from(start + 1 < steps.len());
+            met.rounds_behind += usize::from(start != 0);
+        }
+        Answer::Missing { named, .. } => drop(asked.compare_chain(last(), named, 3)),
+        Answer::End { named, .. } => drop(asked.compare_chain(last(), named, 4)),
+    }
+}
+
+#[test]
+fn random_questions() {
+    let mut random = Random(19);
+    let mut met = Met::default();
+    for _ in 0..QUESTIONS {
+        let (sheet, entry) = (sheet(&mut random), entry(&mut random));
+        compare(&sheet, &entry, &mut met);
+    }
+    let Met {
+        successes,
+        failures,
+        loops,
+        missing,
+        ends,
+        again,
+        long_rounds,
+        rounds_behind,
+    } = met;
+    let counts = [
+        successes,
+        failures,
+        loops,
+        missing,
+        ends,
+        again,
+        long_rounds,
+        rounds_behind,
+    ];
+    assert!(counts.iter().all(|count| ENOUGH <= *count), "{counts:?}");
+}

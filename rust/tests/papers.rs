@@ -1,0 +1,119 @@
+//! The examples in the papers are what the programs print.
+use std::path::{Path, PathBuf};
+use std::process::Command;
+
+fn docs() -> PathBuf {
+    Path::new(env!("CARGO_MANIFEST_DIR")).join("../docs")
+}
+
+/// The indented blocks of a paper, each with the last line of text before it.
+fn blocks(paper: &str) -> Vec<(String, Vec<String>)> {
+    let mut found: Vec<(String, Vec<String>)> = Vec::new();
+    let (mut before, mut inside) = ("", false);
+    for line in paper.lines().filter(|line| !line.is_empty()) {
+        let text = line.strip_prefix("    ");
+        match (text, found.last_mut()) {
+            (Some(text), Some((_, block))) if inside => block.push(text.to_string()),
+            (Some(text), _) => found.push((before.to_string(), vec![text.to_string()])),
+            (None, _) => before = line,
+        }
+        inside = text.is_some();
+    }
+    found
+}
+
+/// What a program prints in the folder of the examples.
+fn printed(program: &str, arguments: &[&str]) -> Vec<String> {
+    let output = Command::new(program)
+        .args(arguments)
+        .current_dir(docs().join("sheets"))
+        .output()
+        .expect("it runs");
+    let text = String::from_utf8(output.stdout).expect("it prints UTF-8");
+    written(&text)
+}
+
+/// The lines of a text that are not empty: a paper does not tell those at a block's end from those behind it.
+fn written(text: &str) -> Vec<String> {
+    let lines = text.lines().filter(|line| !line.is_empty());
+    lines.map(str::to_string).collect()
+}
+
+#[test]
+fn commands_in_sheets() {
+    let paper = std::fs::read_to_string(docs().join("SHEETS.md")).expect("it is there");
+    let mut commands = 0;
+    for (_, block) in blocks(&paper) {
+        let Some(command) = block[0].strip_prefix("$ ") else {
+            continue;
+        };
+        let words: Vec<&str> = command.split(' ').collect();
+        let program = match words[0] {
+            "explain" => env!("CARGO_BIN_EXE_explain"),
+            "register" => env!("CARGO_BIN_EXE_register"),
+            other => panic!("no program: {other}"),
+        };
+        let mut found = printed(program, &words[1..]);
+        // The rate is another one each time.
+        if let Some(rate) = found
+            .last_mut()
+            .filter(|line| line.ends_with(" entries a second"))
+        {
+            *rate = ".. entries a second".to_string();
+        }
+        assert_eq!(block[1..], found, "{command}");
+        commands += 1;
+    }
+    assert!(commands > 12, "{commands}");
+}
+
+/// A file that is shown stands behind its name and a colon.
+#[test]
+fn files_in_papers() {
+    let mut files = 0;
+    for (paper, folder) in [
+        ("SHEETS.md", "sheets"),
+        ("IMPORTING.md", "sheets"),
+        ("IMPORTING.md", "../rust/examples"),
+    ] {
+        let text = std::fs::read_to_string(docs().join(paper)).expect("it is there");
+        for (before, block) in blocks(&text) {
+            let name = before
+                .strip_suffix("`:")
+                .and_then(|text| text.rsplit('`').next());
+            let Some(file) =
+                name.and_then(|name| std::fs::read_to_string(docs().join(folder).join(name)).ok())
+            else {
+                continue;
+            };
+            assert_eq!(block, written(&file), "{before}");
+            files += 1;
+        }
+    }
+    assert!(files > 4, "{files}");
+}
+
+/// The example of the import prints what the paper shows. Cargo builds it with the tests.
+#[test]
+fn import_in_papers() {
+    let paper = std::fs::read_to_string(docs().join("IMPORTING.md")).expect("it is there");
+    let found = blocks(&paper)
+        .into_iter()
+        .find(|(before, _)| before.ends_with("prints:"));
+    let program = Path::new(env!("CARGO_BIN_EXE_explain")).with_file_name("examples/baptisms");
+    let program = program.to_str().expect("a path of text");
+    assert_eq!(found.expect("it is shown").1, printed(program, &[]));
+}
+
+/// The drawing that is shown is the one that `explain` writes.
+#[test]
+fn drawing_in_papers() {
+    let made = Path::new(env!("CARGO_TARGET_TMPDIR")).join("name.svg");
+    let name = made.to_str().expect("a path of text");
+    printed(
+        env!("CARGO_BIN_EXE_explain"),
+        &["--svg", name, "name.txt", "Anna."],
+    );
+    let shown = std::fs::read(docs().join("sheets/name.svg")).expect("it is there");
+    assert!(std::fs::read(made).expect("it was written") == shown);
+}
