@@ -3,6 +3,16 @@
 //! Each call returns 0 with its numbers in `answer`, or 100 plus the number of a refusal, and then everything lent is as it was; [`sheet`] and
 //! [`judge`] store a refusal in `answer`.
 //! The code of an outcome is that of a cell: 1 for failure, 2 loop, 3 missing, 4 end, 5 + q for success ending at q.
+//!
+//! ```
+//! use entryreader::{Pair, test_calls};
+//!
+//! let sheet = b"    1    1   46    0    0\n    1    2   46    0    0\n";
+//! let (mut frames, mut answer) = ([0; 3], [0; 3]);
+//! let asked = Pair { variable: 1, position: 0 };
+//! assert_eq!(test_calls::run(sheet, b".", asked, &mut frames, 1, &mut answer), 0);
+//! assert_eq!(answer, [6, 1, 1]);
+//! ```
 use crate::Pair;
 
 /// The sheet call:

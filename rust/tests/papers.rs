@@ -39,15 +39,27 @@ fn written(text: &str) -> Vec<String> {
     lines.map(str::to_string).collect()
 }
 
+/// The commands of a paper, each with what it shows of their output.
+fn commands(paper: &str) -> Vec<(String, Vec<String>)> {
+    let paper = std::fs::read_to_string(docs().join(paper)).expect("it is there");
+    let blocks = blocks(&paper).into_iter();
+    let command = |(_, block): (String, Vec<String>)| {
+        let command = block[0].strip_prefix("$ ")?.to_string();
+        Some((command, block[1..].to_vec()))
+    };
+    blocks.filter_map(command).collect()
+}
+
 #[test]
-fn commands_in_sheets() {
-    let paper = std::fs::read_to_string(docs().join("SHEETS.md")).expect("it is there");
-    let mut commands = 0;
-    for (_, block) in blocks(&paper) {
-        let Some(command) = block[0].strip_prefix("$ ") else {
-            continue;
-        };
-        let words: Vec<&str> = command.split(' ').collect();
+fn commands_in_papers() {
+    let all = [commands("SHEETS.md"), commands("CASES.md")].concat();
+    assert_eq!(all.len(), 23);
+    for (command, shown) in all {
+        // Two quotes are an empty entry.
+        let words: Vec<&str> = command
+            .split(' ')
+            .map(|word| word.trim_matches('\''))
+            .collect();
         let program = match words[0] {
             "explain" => env!("CARGO_BIN_EXE_explain"),
             "register" => env!("CARGO_BIN_EXE_register"),
@@ -61,10 +73,8 @@ fn commands_in_sheets() {
         {
             *rate = ".. entries a second".to_string();
         }
-        assert_eq!(block[1..], found, "{command}");
-        commands += 1;
+        assert_eq!(shown, found, "{command}");
     }
-    assert!(commands > 12, "{commands}");
 }
 
 /// A file that is shown stands behind its name and a colon.
@@ -75,6 +85,7 @@ fn files_in_papers() {
         ("SHEETS.md", "sheets"),
         ("IMPORTING.md", "sheets"),
         ("IMPORTING.md", "../rust/examples"),
+        ("CASES.md", "sheets"),
     ] {
         let text = std::fs::read_to_string(docs().join(paper)).expect("it is there");
         for (before, block) in blocks(&text) {
@@ -90,7 +101,7 @@ fn files_in_papers() {
             files += 1;
         }
     }
-    assert!(files > 4, "{files}");
+    assert_eq!(files, 6);
 }
 
 /// The example of the import prints what the paper shows. Cargo builds it with the tests.

@@ -122,6 +122,43 @@ fn case_a() {
     assert_eq!(reader.table(), rows.concat());
 }
 
+/// What a variable took, where it also succeeded in a branch that was given up: 2 fails behind the a that 4 takes, so that 3 is tried, in which 7 takes
+/// the a and 4 the b.
+#[test]
+fn taken() {
+    let mut reader = reader(
+        "    7    1   46    0    0
+    1    4    2    5    3
+    2    4    4    6    6
+    3    4    7    4    6
+    4    3    3    0    0
+    5    0    0    0    0
+    6    1    0    0    0
+    7    2   97    0    0
+",
+    );
+    let reading = reader.reading(b"ab").expect("nothing is refused");
+    assert_eq!(reading.answer, Answer::Success { end: 2, cells: 7 });
+    let took = |variable| reading.taken(variable, b"ab");
+    let expected: [Option<&[u8]>; 8] = [
+        Some(b"ab"),
+        None,
+        Some(b"ab"),
+        Some(b"b"),
+        None,
+        None,
+        Some(b"a"),
+        None,
+    ];
+    assert_eq!([1, 2, 3, 4, 5, 6, 7, 8].map(took), expected);
+    // Of another entry, which is shorter.
+    assert_eq!(reading.taken(4, b""), None);
+    // Nothing is taken by what takes no byte; and nothing of a failure.
+    let mut reader = Reader::new(THROUGH_SECOND.as_bytes()).expect("the sheet is accepted");
+    let reading = reader.reading(b"").expect("nothing is refused");
+    assert_eq!(reading.taken(2, b""), None);
+}
+
 /// What a reader says of an entry without its first byte and of the whole entry, with the table and the answer.
 fn said(reader: &mut Reader, entry: &[u8]) -> (Vec<Result<Verdict, Error>>, Vec<u32>, Answer) {
     let reading = reader.reading(entry).expect("nothing is refused");
