@@ -1,4 +1,7 @@
 //! The examples in the papers are what the programs print.
+//!
+//! Papers and programs are only held together here: the outputs in the papers were taken from the programs. That these are right is what `explain`,
+//! `register` and `reader` test, with texts written by hand.
 use std::path::{Path, PathBuf};
 use std::process::Command;
 

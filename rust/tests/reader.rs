@@ -153,10 +153,25 @@ fn taken() {
     assert_eq!([1, 2, 3, 4, 5, 6, 7, 8].map(took), expected);
     // Of another entry, which is shorter.
     assert_eq!(reading.taken(4, b""), None);
-    // Nothing is taken by what takes no byte; and nothing of a failure.
-    let mut reader = Reader::new(THROUGH_SECOND.as_bytes()).expect("the sheet is accepted");
-    let reading = reader.reading(b"").expect("nothing is refused");
-    assert_eq!(reading.taken(2, b""), None);
+    // A loop has no lines.
+    let reading = self::reader(THROUGH_SECOND).reading(b"");
+    assert_eq!(reading.expect("nothing is refused").taken(2, b""), None);
+}
+
+/// Letters, as often as they come: 2 takes three of them, of which the first from the left counts; 1 takes all of them, and 3 nothing behind them.
+#[test]
+fn taken_first() {
+    let mut reader = reader(
+        "    3    1   46    0    0
+    1    4    2    1    3
+    2    3    3    0    0
+    3    0    0    0    0
+",
+    );
+    let reading = reader.reading(b"abc.").expect("nothing is refused");
+    let took = |variable| reading.taken(variable, b"abc.");
+    let expected: [Option<&[u8]>; 3] = [Some(b"abc"), Some(b"a"), Some(b"")];
+    assert_eq!([1, 2, 3].map(took), expected);
 }
 
 /// What a reader says of an entry without its first byte and of the whole entry, with the table and the answer.
@@ -210,6 +225,21 @@ fn long_entries() {
         refused(reader.reading(&entry).err());
         refused(reader.check(&entry, READING.as_bytes()).err());
     }
+}
+
+/// An entry that is refused for its length takes no memory: 256 variables and a million bytes would take two gigabytes.
+#[test]
+fn long_entries_take_no_memory() {
+    let mut reader = reader("  256    1   46    0    0\n");
+    let refused = reader.verdict(&vec![b'.'; 1_000_000]);
+    assert_eq!(refused.map_err(|error| error.number()), Err(6));
+    let status = std::fs::read_to_string("/proc/self/status").expect("it is there");
+    let peak = status.lines().find_map(|line| line.strip_prefix("VmHWM:"));
+    let number = peak.and_then(|line| line.trim().strip_suffix(" kB"));
+    let kilobytes: u64 = number
+        .and_then(|text| text.trim().parse().ok())
+        .expect("a number");
+    assert!(kilobytes < 1_000_000, "{kilobytes}");
 }
 
 /// Every byte as an entry of its own, and before the endmarker: H takes digits only.

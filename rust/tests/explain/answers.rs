@@ -205,6 +205,28 @@ One of the rules of this round must take a byte before it comes back to 3 at 1.
     assert_eq!(explain(sheet(6, lines), "a.", 1), expected);
 }
 
+/// A sheet on which each variable calls the next one, and the last one the first.
+fn round(variables: usize) -> String {
+    let line = |variable: usize| {
+        let called = variable % variables + 1;
+        format!("{variable:5}    4{called:5}{called:5}{called:5}\n")
+    };
+    sheet(variables, &(1..=variables).map(line).collect::<String>())
+}
+
+/// A round of four pairs is told in a sentence, a longer one by the pair that it comes back to.
+#[test]
+fn rounds_in_a_sentence() {
+    let first = |variables| {
+        let text = explain(round(variables), ".", 1);
+        text.lines().next().expect("a line").to_string()
+    };
+    let four = "loop: 1 at 0 calls 2 at 0, which calls 3 at 0, which calls 4 at 0, which calls 1 at 0 again, having taken no byte";
+    assert_eq!(first(4), four);
+    let five = "loop: 1 at 0 comes back to itself, having taken no byte";
+    assert_eq!(first(5), five);
+}
+
 /// The endmarker at two places before the end, and another byte last.
 #[test]
 fn endmarker_earlier() {
