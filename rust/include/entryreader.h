@@ -37,7 +37,7 @@ uint32_t entryreader_verdict(
     const uint8_t *input, size_t input_length);
 
 /*
- * The verdict on an entry, over a lent table and a lent work slice of V times (n + 1) numbers or more. Always returns 0, with four numbers in the answer:
+ * The verdict on an entry, over a lent table of twice V times (n + 1) numbers or more and a lent work slice of V times (n + 1). Always returns 0, with four numbers in the answer:
  * the code of the verdict, the named variable or 0, the end or the named position or 0, the count of decided cells; or for a refusal (1 to 7, 10) 9,
  * its number, the line at fault or 0, and 0, with table and work slice as they were.
  */
@@ -49,10 +49,11 @@ uint32_t entryreader_judge(
     uint32_t (*answer)[4]);
 
 /*
- * The outcome of a variable (1 to V) at a position (0 to n), over a lent table and a lent work slice of V times (n + 1) numbers or more. Returns 0, with
- * the outcome's cell, the named variable and position (or 0 and 0) and the count of decided cells in the answer; or a refusal (1 to 6, 8 to 10). The cell
- * of variable A at p, number (A - 1) times (n + 1) plus p of the table, holds 0 if the question does not reach it, 1 for failure, 2 loop, 3 missing,
- * 4 end, 5 + q for success ending at q.
+ * The outcome of a variable (1 to V) at a position (0 to n), over a lent table of twice V times (n + 1) numbers or more and a lent work slice of
+ * V times (n + 1). Returns 0, with the outcome's code, the named variable and position (or 0 and 0) and the count of decided cells in the answer; or a
+ * refusal (1 to 6, 8 to 10). A cell is two numbers side by side, outcome then reach. The outcome in the cell of variable A at p, number (A - 1) times
+ * (n + 1) plus p, is 0 if the question does not reach it, 1 for failure, 2 loop, 3 missing, 4 end, 5 + q for success ending at q; the reach of a success
+ * or a failure says how far it looked, and any other is 0.
  */
 uint32_t entryreader_question(
     const uint8_t *sheet, size_t sheet_length,

@@ -7,10 +7,10 @@
 //! use entryreader::{Answer, lent};
 //!
 //! let sheet = b"    1    1   46    0    0\n    1    2   46    0    0\n";
-//! let (mut table, mut work) = ([0; 2], [0; 2]);
+//! let (mut table, mut work) = ([0; 4], [0; 2]);
 //! let answer = lent::question(sheet, b".", 1, 0, &mut table, &mut work)?;
 //! assert_eq!(answer, Answer::Success { end: 1, cells: 1 });
-//! assert_eq!(table, [6, 0]);
+//! assert_eq!(table, [6, 1, 0, 0]);
 //! # Ok::<(), entryreader::Error>(())
 //! ```
 use crate::{Answer, Claim, Code, Error, Verdict, calls};
@@ -77,13 +77,13 @@ pub fn verdict(sheet: &[u8], entry: &[u8]) -> Result<Code, Error> {
     Code::from_number(code).ok_or_else(|| Error::from_code(code))
 }
 
-/// The verdict on an entry, over a lent table and a lent work slice of V times (n + 1) numbers or more. The table is left as [`question`] leaves it.
+/// The verdict on an entry, over a lent table of twice V times (n + 1) numbers or more and a lent work slice of V times (n + 1). The table is left as [`question`] leaves it.
 ///
 /// ```
 /// use entryreader::{Verdict, lent::judge};
 ///
 /// let sheet = b"    1    1   46    0    0\n    1    2   46    0    0\n";
-/// let (mut table, mut work) = ([0; 2], [0; 2]);
+/// let (mut table, mut work) = ([0; 4], [0; 2]);
 /// assert_eq!(judge(sheet, b".", &mut table, &mut work)?, Verdict::Recognised { cells: 1 });
 /// # Ok::<(), entryreader::Error>(())
 /// ```
@@ -98,19 +98,21 @@ pub fn judge(
     Verdict::from_numbers(answer)
 }
 
-/// The outcome of a variable at a position of an entry, over a lent table and a lent work slice of V times (n + 1) numbers or more.
+/// The outcome of a variable at a position of an entry, over a lent table of twice V times (n + 1) numbers or more and a lent work slice of
+/// V times (n + 1).
 ///
-/// Afterwards the cell of variable A at p, number (A - 1) times (n + 1) plus p, holds 0 if its pair is not reached, 1 for failure, 2 for loop,
-/// 3 for missing, 4 for end, 5 + q for success ending at q. Later cells are unchanged, and so are later numbers of the work slice.
+/// A cell is two numbers side by side, outcome then reach. Afterwards the outcome in the cell of variable A at p, number (A - 1) times (n + 1) plus p,
+/// is 0 if its pair is not reached, 1 for failure, 2 for loop, 3 for missing, 4 for end, 5 + q for success ending at q; the reach of a success or a
+/// failure says how far it looked, and any other is 0. Later cells are unchanged, and so are later numbers of the work slice.
 ///
 /// ```
 /// use entryreader::{Answer, lent::question};
 ///
 /// let sheet = b"    1    1   46    0    0\n    1    2   46    0    0\n";
-/// let (mut table, mut work) = ([7; 3], [7; 3]);
+/// let (mut table, mut work) = ([7; 5], [7; 3]);
 /// let answer = question(sheet, b".", 1, 0, &mut table, &mut work)?;
 /// assert_eq!(answer, Answer::Success { end: 1, cells: 1 });
-/// assert_eq!(table, [6, 0, 7]);
+/// assert_eq!(table, [6, 1, 0, 0, 7]);
 /// # Ok::<(), entryreader::Error>(())
 /// ```
 pub fn question(
@@ -129,7 +131,7 @@ pub fn question(
 /// The outcome of a variable at a position of an entry of which the byte at `c` was corrected, over the table that a question left of the entry
 /// before, or a correction; `cells` is the count of newly decided cells.
 ///
-/// Cells at positions up to `c` are blanked, the others retained. The answer is then the one that a fresh table gives, and afterwards a cell is
+/// Cells at positions up to `c` are blanked, but for a success or a failure whose reach is at most `c`; the others are retained. The answer is then the one that a fresh table gives, and afterwards a cell is
 /// not blank where it was retained so or its pair is reached, and holds its pair's outcome: the table serves for the next correction. From any other
 /// table nothing is promised but that the call ends within its slices. Later cells are unchanged, and so are later numbers of the work slice.
 ///
@@ -142,7 +144,7 @@ pub fn question(
 ///     2    3    1    0    0
 ///     3    2   46    0    0
 /// ";
-/// let (mut table, mut work) = ([0; 9], [0; 9]);
+/// let (mut table, mut work) = ([0; 18], [0; 9]);
 /// assert_eq!(question(sheet, b"6.", 1, 0, &mut table, &mut work)?, Answer::Success { end: 2, cells: 3 });
 /// // The byte at 0 is a 9, after all: the full stop behind it is not read again.
 /// assert_eq!(correct(sheet, b"9.", 1, 0, 0, &mut table, &mut work)?, Answer::Success { end: 2, cells: 2 });
@@ -178,7 +180,7 @@ pub fn correct(
 /// use entryreader::{Answer, lent::write};
 ///
 /// let sheet = b"    1    1   46    0    0\n    1    2   46    0    0\n";
-/// let (mut table, mut work, mut out) = ([0; 2], [0; 2], [0; 98]);
+/// let (mut table, mut work, mut out) = ([0; 4], [0; 2], [0; 98]);
 /// let (answer, lines) = write(sheet, b".", 1, 0, &mut table, &mut work, &mut out)?;
 /// assert_eq!((answer, lines), (Answer::Success { end: 1, cells: 1 }, 1));
 /// assert_eq!(&out[..49], b"       1       0       0       1       0       0\n");

@@ -265,23 +265,24 @@ impl Reader {
         )
     }
 
-    /// The table that the last answer left, as [`question`](lent::question) says: V times (n + 1) cells.
+    /// The table that the last answer left, as [`question`](lent::question) says: V times (n + 1) cells of two
+    /// numbers, outcome then reach.
     ///
     /// ```
     /// let mut reader = entryreader::Reader::new(b"    1    1   46    0    0\n    1    2   46    0    0\n")?;
     /// reader.verdict(b".")?;
-    /// assert_eq!(reader.table(), [6, 0]);
+    /// assert_eq!(reader.table(), [6, 1, 0, 0]);
     /// # Ok::<(), entryreader::Error>(())
     /// ```
     pub fn table(&self) -> &[u32] {
-        &self.table[..self.cells]
+        &self.table[..2 * self.cells]
     }
 
-    /// Lets table and work slice grow to V times (n + 1) numbers: the count of these.
+    /// Lets the table grow to V times (n + 1) cells of two numbers, and the work slice to as many numbers: the count of cells.
     fn make_room(&mut self, entry: &[u8]) -> usize {
         let cells = calls::length(self.header.variables) * (entry.len().min(LONGEST) + 1);
-        if self.table.len() < cells {
-            self.table.resize(cells, 0);
+        if self.work.len() < cells {
+            self.table.resize(2 * cells, 0);
             self.work.resize(cells, 0);
         }
         cells

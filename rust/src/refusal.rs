@@ -29,7 +29,7 @@ pub enum Refusal {
     Variable,
     /// 9: the position asked for is above the entry's length.
     Place,
-    /// 10: the table or the work slice has fewer than V times (n + 1) numbers.
+    /// 10: the table has fewer than twice V times (n + 1) numbers, or the work slice fewer than V times (n + 1).
     Room,
     /// 11: the output has fewer bytes than the longest that could be written: 49 times V times (n + 1) for a reading, 26 times (allowance + 1)
     /// for the sheet of a text.
@@ -127,7 +127,9 @@ impl Refusal {
             }
             Refusal::Variable => "the variable asked for is not in 1 to V",
             Refusal::Place => "the position asked for is above the entry's length",
-            Refusal::Room => "the table or the work slice has fewer than V times (n + 1) numbers",
+            Refusal::Room => {
+                "the table has fewer than twice V times (n + 1) numbers, or the work slice fewer than V times (n + 1)"
+            }
             Refusal::Output => "the output is too short for the longest that could be written",
             Refusal::ReadingForm => "not six fields of 8 columns and a line feed",
             Refusal::ReadingLine => {

@@ -34,7 +34,7 @@ pub use crate::calls::sheet;
 /// use entryreader::test_calls::judge;
 ///
 /// let sheet = b"    1    1   46    0    0\n    1    2   46    0    0\n";
-/// let (mut table, mut work, mut answer) = ([0; 2], [0; 2], [0; 4]);
+/// let (mut table, mut work, mut answer) = ([0; 4], [0; 2], [0; 4]);
 /// assert_eq!(judge(sheet, b".", &mut table, &mut work, &mut answer), 0);
 /// assert_eq!(answer, [0, 0, 1, 1]);
 /// assert_eq!(judge(sheet, b"", &mut table, &mut work, &mut answer), 0);
@@ -48,7 +48,7 @@ pub use crate::calls::judge;
 /// use entryreader::test_calls::question;
 ///
 /// let sheet = b"    1    1   46    0    0\n    1    2   46    0    0\n";
-/// let (mut table, mut work, mut answer) = ([0; 2], [0; 2], [0; 4]);
+/// let (mut table, mut work, mut answer) = ([0; 4], [0; 2], [0; 4]);
 /// assert_eq!(question(sheet, b".", 1, 0, &mut table, &mut work, &mut answer), 0);
 /// assert_eq!(answer, [6, 0, 0, 1]);
 /// assert_eq!(question(sheet, b".", 2, 0, &mut table, &mut work, &mut answer), 108);
@@ -61,7 +61,7 @@ pub use crate::calls::question;
 /// use entryreader::test_calls::correct;
 ///
 /// let sheet = b"    1    1   46    0    0\n    1    2   46    0    0\n";
-/// let (mut table, mut work, mut answer) = ([0; 2], [0; 2], [0; 4]);
+/// let (mut table, mut work, mut answer) = ([0; 4], [0; 2], [0; 4]);
 /// assert_eq!(correct(sheet, b".", 1, 0, 0, &mut table, &mut work, &mut answer), 0);
 /// assert_eq!(answer, [6, 0, 0, 1]);
 /// ```
@@ -181,7 +181,7 @@ pub fn run(
 ///
 /// let sheet = b"    1    1   46    0    0\n    1    2   46    0    0\n";
 /// let asked = Pair { variable: 1, position: 0 };
-/// let (mut table, mut work, mut output, mut answer) = ([0; 2], [0; 2], [0; 98], [0; 5]);
+/// let (mut table, mut work, mut output, mut answer) = ([0; 4], [0; 2], [0; 98], [0; 5]);
 /// assert_eq!(write(sheet, b".", asked, &mut table, &mut work, &mut output, &mut answer), 0);
 /// assert_eq!(answer, [6, 0, 0, 1, 1]);
 /// assert_eq!(&output[..49], b"       1       0       0       1       0       0\n");

@@ -32,7 +32,7 @@ fn case(sheet: &str, entry: &[u8], position: u32) -> Case {
 
 #[test]
 fn random_questions() {
-    with_deep_stack(|| Comparison::new(1).many(15_000));
+    with_deep_stack(|| Comparison::new(3).many(15_000));
 }
 
 /// The long comparison. `COMPARE_SEED` in the environment gives other questions.
@@ -137,7 +137,7 @@ fn around(limit: usize) -> Vec<usize> {
 fn lengths_of_table_work_and_output() {
     let mut comparison = Comparison::new(3);
     for case in few_cases() {
-        for table in around(case.cells) {
+        for table in around(2 * case.cells) {
             for work in around(case.cells) {
                 comparison.question(&case, table, work);
                 comparison.judge(&case, table, work);
@@ -238,7 +238,7 @@ fn whole_entries() {
             plain.extend(b".");
             let case = case(RUN, &plain, 0);
             comparison.verdict(&case);
-            comparison.judge(&case, case.cells, case.cells);
+            comparison.judge(&case, 2 * case.cells, case.cells);
         }
     });
 }
@@ -257,14 +257,14 @@ fn greatest_table() {
         for sheet in [&text, &wide] {
             let case = case(sheet, &[b'a'; 4096], 0);
             let (cells, output) = (case.cells, 49 * case.cells);
-            comparison.question(&case, cells, cells);
-            comparison.question(&case, cells, cells - 1);
-            comparison.write(&case, cells, cells, output);
-            comparison.write(&case, cells, cells, output - 1);
+            comparison.question(&case, 2 * cells, cells);
+            comparison.question(&case, 2 * cells, cells - 1);
+            comparison.write(&case, 2 * cells, cells, output);
+            comparison.write(&case, 2 * cells, cells, output - 1);
             let mut ended = case;
             ended.entry[4095] = b'.';
-            comparison.judge(&ended, cells, cells);
-            comparison.judge(&ended, cells - 1, cells);
+            comparison.judge(&ended, 2 * cells, cells);
+            comparison.judge(&ended, 2 * cells - 1, cells);
         }
     });
 }

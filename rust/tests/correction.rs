@@ -19,6 +19,11 @@ const LOOP: u32 = 2;
 /// The code of a success ending at 0; no other outcome has a code as great.
 const SUCCESS: u32 = 5;
 
+/// "success and failure cells (1, and 5 or more)"
+fn is_result(outcome: u32) -> bool {
+    outcome == 1 || SUCCESS <= outcome
+}
+
 /// The four numbers of an answer, or the number of a refusal.
 type Said = Result<[u32; 4], u32>;
 
@@ -86,16 +91,37 @@ impl Case {
             entry: &self.entry,
             asked,
         };
-        recognizer::question(question, self.cells(), self.cells())
+        recognizer::question(question, 2 * self.cells(), self.cells())
             .unwrap_or_else(|number| panic!("{number}: {self}"))
+    }
+
+    /// The cells of a table, outcome and reach, each with its place; without later numbers.
+    fn cells_of(&self, table: &[u32]) -> Vec<(u32, [u32; 2])> {
+        let row = self.entry.len() + 1;
+        let cells = table[..2 * self.cells()].chunks(2).enumerate();
+        cells
+            .map(|(i, cell)| ((i % row) as u32, [cell[0], cell[1]]))
+            .collect()
+    }
+
+    /// Does a cell stay: "success and failure cells (1, and 5 or more) with reach at most c stay also"?
+    fn stays(&self, place: u32, [outcome, reach]: [u32; 2]) -> bool {
+        self.c < place || (is_result(outcome) && reach <= self.c)
     }
 
     /// What a correction retains of the cells.
     fn retained(&self, table: &[u32]) -> Vec<u32> {
-        let row = self.entry.len() + 1;
-        let above = |i: usize| self.c < (i % row) as u32;
-        let cell = |(i, cell): (usize, &u32)| if above(i) { *cell } else { 0 };
-        table[..self.cells()].iter().enumerate().map(cell).collect()
+        let retained = |(place, cell)| {
+            if self.stays(place, cell) {
+                cell
+            } else {
+                [0, 0]
+            }
+        };
+        self.cells_of(table)
+            .into_iter()
+            .flat_map(retained)
+            .collect()
     }
 
     /// The call itself.
@@ -124,7 +150,7 @@ impl Case {
             assert!(unchanged, "{returned} {asked:?} {self}");
             return Err(returned - 100);
         }
-        let kept = lent.keeps_from(self.cells()) && work.keeps_from(self.cells());
+        let kept = lent.keeps_from(2 * self.cells()) && work.keeps_from(self.cells());
         assert!(kept && answer.keeps_from(4), "{asked:?} {self}");
         *table = lent.slice().to_vec();
         let said: [u32; 4] = *answer.array();
@@ -137,7 +163,7 @@ impl Case {
 
     /// A question over a fresh table, longer than it needs to be; the table afterwards.
     fn question(&self, random: &mut Random, asked: Pair) -> Vec<u32> {
-        let mut table = Lent::any(random, self.cells() + 3);
+        let mut table = Lent::any(random, 2 * self.cells() + 3);
         let mut work = Lent::any(random, self.cells());
         let mut answer = [0; 4];
         let pair = (asked.variable, asked.position);
@@ -165,13 +191,14 @@ impl std::fmt::Display for Case {
 
 /// The four numbers that a correction must give where the cells held these before, and the cells that it must leave.
 fn expected(found: &Answered, start: &[u32]) -> ([u32; 4], Vec<u32>) {
-    let reached = found.table.iter().zip(start);
+    let reached = found.table.chunks(2).zip(start.chunks(2));
     let cells = reached
         .clone()
-        .map(|(new, old)| if *new == 0 { *old } else { *new });
+        .flat_map(|(new, old)| if new[0] == 0 { old } else { new })
+        .copied();
     let newly = reached
         .clone()
-        .filter(|(new, old)| **new != 0 && **old == 0);
+        .filter(|(new, old)| new[0] != 0 && old[0] == 0);
     let named = found.named.unwrap_or(Pair {
         variable: 0,
         position: 0,
@@ -202,7 +229,7 @@ impl Met {
         let found = case.answered(asked);
         let start = case.retained(table);
         let (four, cells) = expected(&found, &start);
-        let later = table[case.cells()..].to_vec();
+        let later = table[2 * case.cells()..].to_vec();
         let said = case.correction(random, asked, table);
         assert_eq!(said, Ok(four), "{asked:?} {case}");
         assert_eq!(*table, [cells, later].concat(), "{asked:?} {case}");
@@ -213,9 +240,9 @@ impl Met {
     fn note(&mut self, case: &Case, asked: Pair, found: &Answered, start: &[u32]) {
         let outcome = code(found.outcome);
         self.outcomes[outcome.min(SUCCESS) as usize] += 1;
-        for (new, old) in found.table.iter().zip(start) {
-            if *new != 0 {
-                self.retained[(*old).min(SUCCESS) as usize] += 1;
+        for (new, old) in found.table.chunks(2).zip(start.chunks(2)) {
+            if new[0] != 0 {
+                self.retained[old[0].min(SUCCESS) as usize] += 1;
             }
         }
         self.loops_right += u64::from(outcome == LOOP && case.c < asked.position);
@@ -327,8 +354,8 @@ fn retained_loops() {
 fn safe_call() {
     let said = |variable, position, c, last| {
         let case = loops(b"yaa", c);
-        let (mut table, mut work) = ([0; 20], [0; 20]);
-        table[19] = last;
+        let (mut table, mut work) = ([0; 40], [0; 20]);
+        [table[38], table[39]] = [last, 3];
         let (sheet, entry) = (&case.sheet, &case.entry);
         entryreader::lent::correct(sheet, entry, variable, position, c, &mut table, &mut work)
             .map_err(|error| error.refusal())
@@ -358,12 +385,13 @@ fn refused(case: &Case, table: &[u32]) -> Option<u32> {
     if n as u64 <= u64::from(case.c) {
         return Some(18);
     }
-    let out = |(i, cell): (usize, &u32)| {
-        let place = i % (n + 1);
-        let end = (*cell as usize).checked_sub(5);
-        case.c < place as u32 && end.is_some_and(|end| n < end || end < place)
+    let out = |(place, cell): (u32, [u32; 2])| {
+        let [outcome, reach] = cell;
+        let end = outcome.checked_sub(5);
+        let end_out = end.is_some_and(|end| (n as u32) < end || end < place);
+        case.stays(place, cell) && (end_out || (is_result(outcome) && reach < place))
     };
-    let any = table[..case.cells()].iter().enumerate().any(out);
+    let any = case.cells_of(table).into_iter().any(out);
     any.then_some(19)
 }
 
@@ -377,6 +405,15 @@ fn number(random: &mut Random, place: usize, n: usize) -> u32 {
         2..150 => 5 + end,
         150 => 5 + n,
         _ => random.below(5) as u32,
+    }
+}
+
+/// A reach that may stand beside it: most are in range.
+fn reach(random: &mut Random, place: usize, n: usize) -> u32 {
+    let (place, n) = (place as u32, n as u32);
+    match random.below(400) {
+        0 => random.pick(&[0, place.saturating_sub(1), u32::MAX]),
+        _ => place + random.below(u64::from(n - place) + 2) as u32,
     }
 }
 
@@ -397,8 +434,14 @@ fn any_table() {
         let asked = case.pair(&mut random);
         let mut table = match random.below(4) {
             0 => Case::random(&mut random, variables, length).question(&mut random, asked),
-            _ => (0..case.cells() + 3)
-                .map(|i| number(&mut random, i % (length + 1), length))
+            _ => (0..case.cells() + 2)
+                .map(|i| i % (length + 1))
+                .flat_map(|place| {
+                    [
+                        number(&mut random, place, length),
+                        reach(&mut random, place, length),
+                    ]
+                })
                 .collect(),
         };
         let refused = refused(&case, &table);
@@ -422,7 +465,8 @@ fn four_cells(table: [u32; 4], c: u32) -> Said {
         variable: 1,
         position: 0,
     };
-    case.correction(&mut Random(20), asked, &mut table.to_vec())
+    let mut table: Vec<u32> = table.into_iter().flat_map(|outcome| [outcome, 3]).collect();
+    case.correction(&mut Random(20), asked, &mut table)
 }
 
 /// Refusals 18 and 19 at their edges.
@@ -480,8 +524,8 @@ fn question_first() {
     assert_eq!(said(&case, pair(0, 9), 0), Err(8));
     assert_eq!(said(&case, pair(6, 9), 0), Err(8));
     assert_eq!(said(&case, pair(1, 4), 0), Err(9));
-    assert_eq!(said(&case, pair(1, 3), 19), Err(10));
-    assert_eq!(said(&case, pair(1, 3), 20), Err(18));
+    assert_eq!(said(&case, pair(1, 3), 39), Err(10));
+    assert_eq!(said(&case, pair(1, 3), 40), Err(18));
 }
 
 /// A position that was named wrongly: the call still ends, and what it leaves beyond its cells is as it was.

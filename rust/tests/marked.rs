@@ -13,7 +13,7 @@ fn judge(sheet: &str, entry: &str) -> Result<Code, Refusal> {
 #[test]
 fn marked_entries() {
     for case in cases() {
-        let (mut table, mut work) = ([7; 1024], [7; 1024]);
+        let (mut table, mut work) = ([7; 2048], [7; 1024]);
         let (sheet, entry) = (case.sheet.as_bytes(), case.entry.as_bytes());
         let answer = question(sheet, entry, 1, 0, &mut table, &mut work);
         assert_eq!(answer, Ok(case.answer));
@@ -23,16 +23,16 @@ fn marked_entries() {
 
 #[test]
 fn cells_of_a() {
-    let (mut table, mut work) = ([7; 30], [7; 30]);
+    let (mut table, mut work) = ([7; 54], [7; 30]);
     let answer = question(H.as_bytes(), b"-6.", 1, 0, &mut table, &mut work);
     assert_eq!(answer, Ok(Answer::Success { end: 3, cells: 5 }));
-    let mut expected = [0; 30];
-    expected[24..].fill(7);
-    expected[0] = 8; // 1 at 0
-    expected[4] = 6; // 2 at 0
-    expected[9] = 8; // 3 at 1
-    expected[13] = 7; // 4 at 1
-    expected[18] = 8; // 5 at 2
+    let mut expected = [0; 54];
+    expected[48..].fill(7);
+    expected[0..2].copy_from_slice(&[8, 3]); // 1 at 0
+    expected[8..10].copy_from_slice(&[6, 1]); // 2 at 0
+    expected[18..20].copy_from_slice(&[8, 3]); // 3 at 1
+    expected[26..28].copy_from_slice(&[7, 2]); // 4 at 1
+    expected[36..38].copy_from_slice(&[8, 3]); // 5 at 2
     assert_eq!(table, expected);
     assert_eq!(work[24..], [7; 6]);
 }

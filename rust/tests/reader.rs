@@ -110,14 +110,14 @@ fn case_a() {
     assert_eq!(reading.lines, lines);
     let claim = reader.check(b"-6.", &reading.bytes);
     assert_eq!(claim, Ok(Claim::Success { end: 3 }));
-    // A row for each variable, with positions 0 to 3.
+    // A row for each variable, with positions 0 to 3, outcome and reach.
     let rows = [
-        [8, 0, 0, 0],
-        [6, 0, 0, 0],
-        [0, 8, 0, 0],
-        [0, 7, 0, 0],
-        [0, 0, 8, 0],
-        [0, 0, 0, 0],
+        [8, 3, 0, 0, 0, 0, 0, 0],
+        [6, 1, 0, 0, 0, 0, 0, 0],
+        [0, 0, 8, 3, 0, 0, 0, 0],
+        [0, 0, 7, 2, 0, 0, 0, 0],
+        [0, 0, 0, 0, 8, 3, 0, 0],
+        [0, 0, 0, 0, 0, 0, 0, 0],
     ];
     assert_eq!(reader.table(), rows.concat());
 }
@@ -196,7 +196,7 @@ fn grows_and_is_used_again() {
     for length in [3, 4_096, 3, 1, 500, 2, 4_095, 1] {
         let entry = entry(length);
         assert_eq!(said(&mut used, &entry), said(&mut reader(I), &entry));
-        assert_eq!(used.table().len(), 3 * (length + 1));
+        assert_eq!(used.table().len(), 2 * 3 * (length + 1));
         // A refusal leaves the table as it was.
         let table = used.table().to_vec();
         let long = used.ask(&[b'a'; 4_097], 1, 0);
@@ -501,7 +501,7 @@ impl<'a> Beside<'a> {
         Beside {
             reader,
             entry,
-            table: vec![7; cells],
+            table: vec![7; 2 * cells],
             work: vec![7; cells],
         }
     }

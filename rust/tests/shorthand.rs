@@ -33,7 +33,7 @@ fn asked(sheet: &[u8], entry: &[u8], variable: u32, position: usize) -> Outcome 
         .parse()
         .unwrap();
     let cells = variables * (entry.len() + 1);
-    let (mut table, mut work) = (vec![0; cells], vec![0; cells]);
+    let (mut table, mut work) = (vec![0; 2 * cells], vec![0; cells]);
     let answer = question(
         sheet,
         entry,

@@ -51,7 +51,7 @@ fn machine() {
 
 /// The writer on variable 1 at position 0, over slices that are just long enough.
 fn write(sheet: &str, entry: &[u8], cells: usize) -> ([u32; 5], Vec<u8>) {
-    let (mut table, mut work) = (vec![7; cells], vec![7; cells]);
+    let (mut table, mut work) = (vec![7; 2 * cells], vec![7; cells]);
     let mut output = vec![7; 49 * cells];
     let mut answer = [9; 5];
     let code = test_calls::write(
@@ -88,7 +88,7 @@ fn writer() {
 
 #[test]
 fn eleven_output() {
-    for (table, output, code) in [(24, 49 * 24 - 1, 111), (24, 0, 111), (23, 0, 110)] {
+    for (table, output, code) in [(48, 49 * 24 - 1, 111), (48, 0, 111), (47, 0, 110)] {
         let (mut table, mut work) = (vec![7; table], vec![7; 24]);
         let mut output = vec![7; output];
         let mut answer = [9; 5];

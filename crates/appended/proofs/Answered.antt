@@ -2,7 +2,7 @@
 use mathlib.Core.Bool.{true≢false}
 use mathlib.Core.List.{List, _++_}
 use mathlib.Core.Path.{_≡_, refl, sym, _∙_, subst}
-use Prim.Native.Nat.{ℕ, _≤_}
+use Prim.Native.Nat.{ℕ, _*_, _≤_}
 use native.Mathlib.Omega.{arith}
 use lib.ListN.{length, length-append}
 use borrow.Author.Tests.{le-ltb}
@@ -14,7 +14,7 @@ use Rattle.schema.specs.Handed.{Handed, handed, asked, questionOf}
 use Rattle.schema.specs.Machine.{says, ran}
 use Rattle.schema.specs.Reached.{Named}
 use Rattle.schema.specs.Table.{Within, cells}
-use Rattle.schema.proofs.Handed.{handed-sheet, handed-pair, handed-slices}
+use Rattle.schema.proofs.Handed.{handed-sheet, handed-pair}
 use Rattle.schema.proofs.Tested.{asked-by, question-follows}
 use Rattle.finish.specs.Reply.{Reply, reply, outcomeOf, countOf, told}
 use Rattle.finish.specs.declared.Answer.{Answer}
@@ -80,9 +80,6 @@ module _ (s input added : List ℕ) (A p : ℕ) where
     within : Within (longer .grammar .variables) (length (input ++ added)) A p
     within = handed-pair s call g (longer .accepts) (A at p) refl
 
-    room : cells (longer .grammar .variables) (length (input ++ added)) ≤ length table
-    room = handed-slices s call g (longer .accepts) (length table) (length work) refl .0
-
     -- An outcome that is not end, on the shorter input,
     module _ {o : Outcome} (lasting : Lasting o) (shorter : Given s input (A at p) o) where
       same : shorter .grammar ≡ g
@@ -96,14 +93,14 @@ module _ (s input added : List ℕ) (A p : ℕ) where
 
       -- is the outcome of the reply,
       outcome-again : outcomeOf b ≡ o
-      outcome-again = outcome-is s call g (longer .accepts) (A at p) within room (longer .answers) o .0 has-again
+      outcome-again = outcome-is s call g (longer .accepts) (A at p) within (longer .answers) o .0 has-again
 
       -- which names the same pair.
       reply-again : (z : Pair) → Named (shorter .grammar .rule) input (A at p) o z → b ≡ reply o z (countOf b)
       reply-again z names =
           let again = subst (λ (k : Grammar). Named (k .rule) input (A at p) o z) same names in
-          answer-is s call g (longer .accepts) (A at p) within room (longer .answers) o z (countOf b) has-again
-          (comes-again (g .rule) input added (A at p) .named o z lasting has again) (count-is s call g (longer .accepts) (A at p) within room (longer .answers))
+          answer-is s call g (longer .accepts) (A at p) within (longer .answers) o z (countOf b) has-again
+          (comes-again (g .rule) input added (A at p) .named o z lasting has again) (count-is s call g (longer .accepts) (A at p) within (longer .answers))
 
   question-repeats : {table table′ work work′ table₂ table₂′ work₂ work₂′ : List ℕ} {a b : Reply} → Replied s input A p table table′ work work′ a
       → Replied s (input ++ added) A p table₂ table₂′ work₂ work₂′ b → Lasting (outcomeOf a) → Repeats a b
@@ -126,7 +123,7 @@ module _ (s input added : List ℕ) (A p : ℕ) where
         let plain : handed s (asked (input ++ added) (A at p)) ≡ accepted g =
         asked-by s (input ++ added) g A p (handed-sheet s shorter g accepts) (le-ltb 4096 (length (input ++ added)) limit)
         (within-both 1 (g .variables) A (w .variable .0) (w .variable .1)) (le-ltb (length (input ++ added)) p position) in
-        question-follows s (input ++ added) A p table₂ work₂ (accepted g) plain ∙ rw (le-ltb table₂ size room, le-ltb work₂ size work-room);
+        question-follows s (input ++ added) A p table₂ work₂ (accepted g) plain ∙ rw (le-ltb table₂ (2 * size) room, le-ltb work₂ size work-room);
     question-repeats = λ table table′ work work′ r one table₂ table₂′ work₂ work₂′ r₂ two a b e f l.
         question-repeats (replied s input A p table table′ work work′ r one a e) (replied s (input ++ added) A p table₂ table₂′ work₂ work₂′ r₂ two b f) l;
     run-repeats = λ frames frames′ budget r runs table table′ work work′ r₂ two o moves b e f l.

@@ -1,7 +1,7 @@
 -- Document 02, order 3, "Text added at the end": what the calls say again, of any results that meet their contracts. Assumes nothing.
 use mathlib.Core.List.{List, _++_}
 use mathlib.Core.Path.{_≡_}
-use Prim.Native.Nat.{ℕ, _≤_}
+use Prim.Native.Nat.{ℕ, _*_, _≤_}
 use lib.ListN.{length}
 use Rattle.grammar.specs.Refusal.{accepted}
 use Rattle.grammar.specs.Sheet.{Grammar}
@@ -26,7 +26,7 @@ pub record AnsweredAgain (sheet input added : List ℕ) (A p : ℕ) : Type 0 whe
   -- "For every accepted sheet, pair and appended bytes within the limit": where the first question is not refused, and the longer input has no more
   -- than 4,096 bytes and slices that are long enough for it, the second is not refused either.
   pub not-refused : (table work table₂ work₂ : ℕ) (g : Grammar) → handed sheet (questionOf input (A at p) table work) ≡ accepted g
-      → length (input ++ added) ≤ 4096 → cells (g .variables) (length (input ++ added)) ≤ table₂ → cells (g .variables) (length (input ++ added)) ≤ work₂
+      → length (input ++ added) ≤ 4096 → 2 * cells (g .variables) (length (input ++ added)) ≤ table₂ → cells (g .variables) (length (input ++ added)) ≤ work₂
       → handed sheet (questionOf (input ++ added) (A at p) table₂ work₂) ≡ accepted g
   -- Where the engine replies to both, and the first outcome is not end, it says the same again.
   pub question-repeats : (table table′ work work′ : List ℕ) (r : Answer) → QuestionPromise sheet input A p table table′ work work′ r

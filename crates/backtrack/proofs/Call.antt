@@ -95,6 +95,6 @@ cases-run c m frames frames′ r e runs =
     let holds = cases-hold c m in
     let g = holds .grammar in
     call-says (text (c .lines)) (c .input) firstPair frames frames′ (c .budget) r runs g
-    (question-accepted (text (c .lines)) (questionOf (c .input) firstPair 1024 1024) g 1 0 (holds .reads) refl)
+    (question-accepted (text (c .lines)) (questionOf (c .input) firstPair 2048 1024) g 1 0 (holds .reads) refl)
     ∙ ap (λ n. accepted (machine (g .rule) (c .input) firstPair (c .budget) n)) e
     ∙ ap (λ a. accepted a) (holds .runs)

@@ -2,7 +2,7 @@
 use mathlib.Core.Bool.{Bool, true, false, _||_}
 use mathlib.Core.List.{List}
 use mathlib.Core.Path.{_≡_, sym, ap, _∙_, subst}
-use Prim.Native.Nat.{ℕ, _≤_, _<_}
+use Prim.Native.Nat.{ℕ, _*_, _≤_, _<_}
 use lib.Dec.{ltb}
 use lib.ListN.{length}
 use borrow.Author.Tests.{lt-ltb, le-ltb}
@@ -42,7 +42,7 @@ module _ {s input : List ℕ} {A p : ℕ} {before after : List ℕ} {r : Sheet} 
       refused-as (refused-before s input (A at p) c table (length work) x l (question-follows s input A p (length table) (length work) (refused x l) h)) t k m
 
   module _ {l : Line} (e : r ≡ Read l) {small : Bool}
-      (tested : small ≡ (ltb (length table) (cells (l .variables) (length input)) || ltb (length work) (cells (l .variables) (length input)))) where
+      (tested : small ≡ (ltb (length table) (2 * cells (l .variables) (length input)) || ltb (length work) (cells (l .variables) (length input)))) where
     abbrev admitted : Admitted s input A p after l
     admitted = read admission table work e
 

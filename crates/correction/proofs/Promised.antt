@@ -14,7 +14,7 @@ use Rattle.schema.specs.Derivation.{Pair, _at_, Outcome, Has}
 use Rattle.schema.specs.Handed.{Handed, handed, questionOf}
 use Rattle.schema.specs.Reached.{Reached, Named}
 use Rattle.schema.specs.Table.{Within, cells, held, Holds}
-use Rattle.schema.proofs.Handed.{handed-sheet, handed-pair, handed-slices}
+use Rattle.schema.proofs.Handed.{handed-sheet, handed-pair}
 use Rattle.schema.proofs.Laws.{has-one, named-one, number-one}
 use Rattle.schema.proofs.SheetClosed.{sheet-closed}
 use Rattle.schema.proofs.Small.{refusal-small}
@@ -50,7 +50,7 @@ question-kept s input A p table table′ work work′ r promise g accepts =
 
 -- ---- One answer and one table.
 
-module _ {rule : ℕ → Rule} {v : ℕ} {input : List ℕ} {x : Pair} {start : Pair → ℕ} {table table′ table″ : List ℕ} {a b : Reply}
+module _ {rule : ℕ → Rule} {v : ℕ} {input : List ℕ} {x : Pair} {start : Pair → ℕ × ℕ} {table table′ table″ : List ℕ} {a b : Reply}
     (one : Corrects rule v input x start table table′ a) (other : Corrects rule v input x start table table″ b) where
   pub one-answer : a ≡ b
   one-answer =
@@ -159,7 +159,7 @@ module _ (s input : List ℕ) (A p c : ℕ) (table work : List ℕ) where
       -- From a kept table:
       module _ (old : List ℕ) (differs : DiffersAt c old input) (kept : KeptTable (g .rule) (g .variables) old table) where
         abbrev start : ℕ → ℕ → ℕ
-        start B q = retained c (length input) table (B at q)
+        start B q = retained c (length input) table (B at q) .0
 
         pub corrects : Corrects (g .rule) (g .variables) input (A at p) (retained c (length input) table) table table′ (correction .replies)
         corrects = correction .from-kept old differs kept
@@ -178,12 +178,11 @@ module _ (s input : List ℕ) (A p c : ℕ) (table work : List ℕ) where
             → (count : ℕ) × (told r₀ ≡ accepted (reply (corrects .outcome) (corrects .named) count))
         as-fresh table₀ table₀′ work₀ work₀′ r₀ promise₀ accepts₀ =
             let call = questionOf input (A at p) (length table₀) (length work₀) in
-            let a = question-answers s input A p table₀ work₀ g accepts₀ table₀′ work₀′ r₀ promise₀ in
-            let room = handed-slices s call g accepts₀ (length table₀) (length work₀) refl .0 in (
+            let a = question-answers s input A p table₀ work₀ g accepts₀ table₀′ work₀′ r₀ promise₀ in (
               _,
               a .1 ∙ ap accepted
-                  (answer-is s call g accepts₀ (A at p) within room (a .2) (corrects .outcome) (corrects .named) _ (corrects .has) (corrects .names)
-                  (count-is s call g accepts₀ (A at p) within room (a .2))),
+                  (answer-is s call g accepts₀ (A at p) within (a .2) (corrects .outcome) (corrects .named) _ (corrects .has) (corrects .names)
+                  (count-is s call g accepts₀ (A at p) within (a .2))),
             )
 
         -- "non-blank afterwards are the retained non-blank cells and those of the pairs reached,

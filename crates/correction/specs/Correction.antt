@@ -1,7 +1,7 @@
--- Document 02, order 4, "One letter corrected": the promise of a correction. Assumes nothing.
+-- Document 02, orders 4 and 6, "One letter corrected": the promise of a correction. Assumes nothing.
 use mathlib.Core.List.{List}
 use mathlib.Core.Path.{_≡_}
-use Prim.Native.Nat.{ℕ, _+_, _≤_}
+use Prim.Native.Nat.{ℕ, _+_, _*_, _≤_}
 use lib.ListN.{length, drop}
 use Rattle.grammar.specs.Refusal.{Checked, refused, accepted}
 use Rattle.grammar.specs.Rule.{Rule}
@@ -18,7 +18,7 @@ use Rattle.correction.specs.Refusals.{correctable}
 
 -- "the answer is the one a fresh table gives; non-blank afterwards are the retained non-blank cells and those of the pairs reached, each holding
 -- its pair's outcome. The count is then of cells newly decided." By `start`, what the cells hold once the call has blanked its own.
-pub record Corrects (rule : ℕ → Rule) (v : ℕ) (input : List ℕ) (x : Pair) (start : Pair → ℕ) (table table′ : List ℕ) (r : Reply) : Type 0 where
+pub record Corrects (rule : ℕ → Rule) (v : ℕ) (input : List ℕ) (x : Pair) (start : Pair → ℕ × ℕ) (table table′ : List ℕ) (r : Reply) : Type 0 where
   pub outcome : Outcome
   pub named : Pair
   pub count : ℕ
@@ -34,7 +34,7 @@ pub record Correction (rule : ℕ → Rule) (v : ℕ) (input : List ℕ) (x : Pa
   pub replies : Reply
   pub accepts : r ≡ accepted replies
   pub small : code (outcomeOf replies) ≤ 5 + length input
-  pub later : drop (cells v (length input)) table′ ≡ drop (cells v (length input)) table
+  pub later : drop (2 * cells v (length input)) table′ ≡ drop (2 * cells v (length input)) table
   pub size : length table′ ≡ length table
   pub beyond : drop (cells v (length input)) work′ ≡ drop (cells v (length input)) work
   pub work-size : length work′ ≡ length work

@@ -15,7 +15,7 @@ use Rattle.schema.specs.Line.{Line, linesBytes}
 use Rattle.schema.specs.Machine.{says, ran}
 use Rattle.schema.specs.Table.{Within, cells}
 use Rattle.rules.proofs.Admitted.{question-accepted}
-use Rattle.schema.proofs.Handed.{handed-sheet, handed-input, handed-pair, handed-slices}
+use Rattle.schema.proofs.Handed.{handed-sheet, handed-input, handed-pair}
 use Rattle.schema.proofs.Laws.{number-one}
 use Rattle.schema.proofs.LineLength.{lines-length}
 use Rattle.schema.proofs.SheetClosed.{sheet-closed}
@@ -75,7 +75,7 @@ written-derived s input A p table table′ work work′ out out′ r promise g a
     let wrote =
     subst (λ (o : Checked Grammar). RepliesWriting o input (A at p) table table′ work work′ out out′ (told (r .answer)) (r .lines)) accepts promise in
     let is =
-    outcome-is s call g accepts (A at p) (handed-pair s call g accepts (A at p) refl) (handed-slices s call g accepts (length table) (length work) refl .0) (wrote .2) in
+    outcome-is s call g accepts (A at p) (handed-pair s call g accepts (A at p) refl) (wrote .2) in
     (wrote .0, wrote .1, λ o. (is o .1, is o .0))
 
 -- ---- "exactly when".
@@ -124,16 +124,13 @@ module _ (s input : List ℕ) (A p : ℕ) (table table′ work work′ out out�
   within : Within (g .variables) (length input) A p
   within = handed-pair s call g accepts (A at p) refl
 
-  room : cells (g .variables) (length input) ≤ length table
-  room = handed-slices s call g accepts (length table) (length work) refl .0
-
   -- There are as many lines as decided cells.
   pub lines-are-cells : r .lines ≡ countOf a
   lines-are-cells =
-      writes .counted ∙ number-one (lines-number (g .rule) input (writes .ordered)) (count-is s call g accepts (A at p) within room (wrote .2)) ∙ ap countOf same
+      writes .counted ∙ number-one (lines-number (g .rule) input (writes .ordered)) (count-is s call g accepts (A at p) within (wrote .2)) ∙ ap countOf same
 
   has : Has (g .rule) input (A at p) (result t)
-  has = outcome-is s call g accepts (A at p) within room (wrote .2) (result t) .1 (ap outcomeOf same ∙ succeeds)
+  has = outcome-is s call g accepts (A at p) within (wrote .2) (result t) .1 (ap outcomeOf same ∙ succeeds)
 
   reading-is : take (49 * r .lines) out′ ≡ linesBytes (writes .lines)
   reading-is =

@@ -2,7 +2,7 @@
 use mathlib.Core.List.{List, [], _∷_, List·Memᴰ}
 use mathlib.Core.Logic.{_⊎_}
 use mathlib.Core.Path.{_≡_, refl, ap, _∙_, subst}
-use Prim.Native.Nat.{ℕ, _≤_}
+use Prim.Native.Nat.{ℕ, _*_, _≤_}
 use lib.ListN.{length}
 use Rattle.grammar.specs.Printing.{text}
 use Rattle.grammar.specs.Refusal.{accepted}
@@ -71,9 +71,9 @@ module _ (s input : List ℕ) (A p : ℕ) (table work table′ work′ : List �
   machine-on-loop a e l frames frames′ budget r runs =
       machine.call-on-loop s input (A at p) frames frames′ budget r runs g plain (demand-3-of a e .outcome-exactly loop .0 l)
 
--- Each marked case, with any table and work slice of at least V times (n + 1) cells: it is answered as document 01 says, and demand 3 holds.
+-- Each marked case, with any table of at least V times (n + 1) cells, two numbers each, and any work slice of as many numbers: it is answered as document 01 says, and demand 3 holds.
 pub demand-3-case : (c : Case) → List·Memᴰ c cases → (table table′ work work′ : List ℕ) (r : Answer)
-    → cells (grammarOf (text (c .lines)) .variables) (length (c .input)) ≤ length table
+    → 2 * cells (grammarOf (text (c .lines)) .variables) (length (c .input)) ≤ length table
     → cells (grammarOf (text (c .lines)) .variables) (length (c .input)) ≤ length work
     → QuestionPromise (text (c .lines)) (c .input) 1 0 table table′ work work′ r
     → (told r ≡ accepted (reply (c .outcome) (c .named) (c .count)))
@@ -86,7 +86,7 @@ demand-3-case c m table table′ work work′ r e f promise =
     )
 
 -- Case a, the sign rule of sheet H: V is 6 and n is 3.
-pub demand-3-a : (table table′ work work′ : List ℕ) (r : Answer) → 24 ≤ length table → 24 ≤ length work
+pub demand-3-a : (table table′ work work′ : List ℕ) (r : Answer) → 48 ≤ length table → 24 ≤ length work
     → QuestionPromise (text sheetH) (45 ∷ 54 ∷ 46 ∷ []) 1 0 table table′ work work′ r
     → (told r ≡ accepted (reply (result (success 3)) (0 at 0) 5))
     × Demand3 (text sheetH) (45 ∷ 54 ∷ 46 ∷ []) (1 at 0) (grammarOf (text sheetH)) table′ (reply (result (success 3)) (0 at 0) 5)
@@ -95,7 +95,7 @@ demand-3-a table table′ work work′ r e f promise =
     demand-3-case _ (List·Memᴰ.List·Memᴰ·head refl) table table′ work work′ r (rw cells-a e) (rw cells-a f) promise
 
 -- Case g, a rule that comes back to itself at the same place: V is 1 and n is 0.
-pub demand-3-g : (table table′ work work′ : List ℕ) (r : Answer) → 1 ≤ length table → 1 ≤ length work
+pub demand-3-g : (table table′ work work′ : List ℕ) (r : Answer) → 2 ≤ length table → 1 ≤ length work
     → QuestionPromise (text (header 1 ∷ (1 ∷ 4 ∷ 1 ∷ 1 ∷ 1 ∷ []) ∷ [])) [] 1 0 table table′ work work′ r
     → (told r ≡ accepted (reply loop (1 at 0) 1))
     × Demand3 (text (header 1 ∷ (1 ∷ 4 ∷ 1 ∷ 1 ∷ 1 ∷ []) ∷ [])) [] (1 at 0) (grammarOf (text (header 1 ∷ (1 ∷ 4 ∷ 1 ∷ 1 ∷ 1 ∷ []) ∷ []))) table′ (reply loop (1 at 0) 1)

@@ -46,7 +46,7 @@ first-is k (some ys) xs e = cc
 
 module _ (s input out out′ : List ℕ) (r : ℕ) (promise : OutputPromise s input out out′ r) where
   abbrev call : Handed
-  call = verdictOf input 1024 1024
+  call = verdictOf input 2048 1024
 
   -- A slice of fewer than 50,209 bytes is left as it is.
   pub short-unchanged : length out < 50209 → (r ≡ 0) × (out′ ≡ out)
@@ -94,22 +94,22 @@ module _ (s input out out′ : List ℕ) (r : ℕ) (promise : OutputPromise s in
         omega arith
 
     -- The output begins with 9, number, line, 0 exactly under that refusal's condition,
-    pub output-refused : (x l : ℕ) → (fields 4 8 out′ 0 ≡ some (9 ∷ x ∷ l ∷ 0 ∷ [])) ↔ Refuses s (verdictOf input 1024 1024) x l
+    pub output-refused : (x l : ℕ) → (fields 4 8 out′ 0 ≡ some (9 ∷ x ∷ l ∷ 0 ∷ [])) ↔ Refuses s (verdictOf input 2048 1024) x l
     output-refused x l = (λ f. by-sheet f (handed s call) refl, λ f. refused-reads x l (call-refused s call x l .1 f))
       where
-        by-sheet : fields 4 8 out′ 0 ≡ some (9 ∷ x ∷ l ∷ 0 ∷ []) → (o : Checked Grammar) → handed s call ≡ o → Refuses s (verdictOf input 1024 1024) x l
+        by-sheet : fields 4 8 out′ 0 ≡ some (9 ∷ x ∷ l ∷ 0 ∷ []) → (o : Checked Grammar) → handed s call ≡ o → Refuses s (verdictOf input 2048 1024) x l
         by-sheet f (refused y m) e = let k = refused-reads y m e in call-refused s call x l .0 (cc)
         by-sheet f (accepted g) e = absurd (accepted-reads g e (x ∷ l ∷ 0 ∷ []) f)
 
     -- and then nothing more is written.
-    pub nothing-more : (x l : ℕ) → Refuses s (verdictOf input 1024 1024) x l → (r ≡ 33) × (out′ ≡ row 8 (9 ∷ x ∷ l ∷ 0 ∷ []) ++ drop 33 out)
+    pub nothing-more : (x l : ℕ) → Refuses s (verdictOf input 2048 1024) x l → (r ≡ 33) × (out′ ≡ row 8 (9 ∷ x ∷ l ∷ 0 ∷ []) ++ drop 33 out)
     nothing-more x l f = refused-puts x l (call-refused s call x l .1 f)
 
     -- ---- Demand 2, "every reading we write passes".
 
-    module _ (g : Grammar) (accepts : handed s (verdictOf input 1024 1024) ≡ accepted g) (t : Result) (has : Has (g .rule) input (g .start at 0) (result t)) where
+    module _ (g : Grammar) (accepts : handed s (verdictOf input 2048 1024) ≡ accepted g) (t : Result) (has : Has (g .rule) input (g .start at 0) (result t)) where
       plain : handed s (asked input (g .start at 0)) ≡ accepted g
-      plain = question-accepted s (writerOf input (g .start at 0) 1024 1024 50176) g (g .start) 0 (writer-accepted s input g accepts 50176 (omega arith)) refl
+      plain = question-accepted s (writerOf input (g .start at 0) 2048 1024 50176) g (g .start) 0 (writer-accepted s input g accepts 50176 (omega arith)) refl
 
       reading-is : take (r - 33) (drop 33 out′) ≡ linesBytes (printing (accepted g) accepts .lines)
       reading-is =

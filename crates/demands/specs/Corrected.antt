@@ -20,7 +20,7 @@ use Rattle.demands.specs.Demands.{claimedOutcome}
 
 -- Of the grammar g of the sheet, the corrected input, the table that the call leaves and its reply; `start` is what the cells held once the call had
 -- blanked its own.
-pub record Demand3Corrected (sheet input : List ℕ) (x : Pair) (g : Grammar) (start : Pair → ℕ) (table : List ℕ) (a : Reply) : Type 0 where
+pub record Demand3Corrected (sheet input : List ℕ) (x : Pair) (g : Grammar) (start : Pair → ℕ × ℕ) (table : List ℕ) (a : Reply) : Type 0 where
   -- The five answers, each exactly where the pair has it.
   pub outcome-exactly : (o : Outcome) → (outcomeOf a ≡ o) ↔ Has (g .rule) input x o
   -- Machine and checker never disagree.
@@ -31,7 +31,7 @@ pub record Demand3Corrected (sheet input : List ℕ) (x : Pair) (g : Grammar) (s
   -- "non-blank afterwards are the retained non-blank cells and those of the pairs reached, each holding its pair's outcome"
   pub cells-hold : (y : Pair) → Reached (g .rule) input x y → Holds (g .rule) input table y
   pub cells-filled : (A p : ℕ) → Within (g .variables) (length input) A p
-      → (held (length input) table (A at p) ≢ 0) ↔ ((start (A at p) ≢ 0) ⊎ Reached (g .rule) input x (A at p))
+      → (held (length input) table (A at p) ≢ 0) ↔ ((start (A at p) .0 ≢ 0) ⊎ Reached (g .rule) input x (A at p))
   pub cells-right : (A p : ℕ) → Within (g .variables) (length input) A p → held (length input) table (A at p) ≢ 0 → Holds (g .rule) input table (A at p)
   -- "The count is then of cells newly decided."
   pub counts : Number (New (g .rule) input x start) (countOf a)

@@ -3,7 +3,7 @@ use mathlib.Core.List.{List}
 use mathlib.Core.Logic.{_≢_, _↔_}
 use mathlib.Core.Path.{_≡_}
 use Prim.Native.Nat.{ℕ, _≤_}
-use lib.ListN.{length, take}
+use lib.ListN.{length}
 use Rattle.grammar.specs.Refusal.{Checked, refused, accepted}
 use Rattle.grammar.specs.Sheet.{Grammar}
 use Rattle.schema.specs.Derivation.{Pair, _at_, success, failure, Outcome, result, Has}
@@ -60,4 +60,4 @@ pub record Demand3 (sheet input : List ℕ) (x : Pair) (g : Grammar) (table : Li
   pub counts : Number (Reached (g .rule) input x) (countOf a)
   pub count-most : countOf a ≤ cells (g .variables) (length input)
   -- Document 01: "the count of decided (non-blank) cells among the first V times (n + 1)".
-  pub count-decided : countOf a ≡ decided (take (cells (g .variables) (length input)) table)
+  pub count-decided : countOf a ≡ decided (cells (g .variables) (length input)) table

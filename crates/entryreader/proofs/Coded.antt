@@ -49,7 +49,7 @@ verdict-coded s input table table′ work work′ j promise = by-sheet (handed s
 
 -- One code only.
 pub one-code : (s input : List ℕ) (r t : ℕ) → VerdictCode s input r → VerdictCode s input t → r ≡ t
-one-code s input r t one other = by-sheet (handed s (verdictOf input 1024 1024)) one other
+one-code s input r t one other = by-sheet (handed s (verdictOf input 2048 1024)) one other
   where
     by-sheet : (o : Checked Grammar) → Coded o input r → Coded o input t → r ≡ t
     by-sheet (refused x l) m k = m ∙ sym k
@@ -57,16 +57,16 @@ one-code s input r t one other = by-sheet (handed s (verdictOf input 1024 1024))
 
 -- Every marked case has the code that document 01 gives, or 100 plus its refusal.
 pub case-coded : (c : Case) → List·Memᴰ c cases → (r : ℕ) → VerdictCode (text (c .lines)) (c .input) r → r ≡ exported (λ k. k) (c .verdict)
-case-coded c m r d = by-sheet (handed (text (c .lines)) (verdictOf (c .input) 1024 1024)) refl (cases-hold c m .judges) d
+case-coded c m r d = by-sheet (handed (text (c .lines)) (verdictOf (c .input) 2048 1024)) refl (cases-hold c m .judges) d
   where
-    by-sheet : (o : Checked Grammar) → handed (text (c .lines)) (verdictOf (c .input) 1024 1024) ≡ o → judged (length (c .input)) (c .outcome) o ≡ c .verdict
+    by-sheet : (o : Checked Grammar) → handed (text (c .lines)) (verdictOf (c .input) 2048 1024) ≡ o → judged (length (c .input)) (c .outcome) o ≡ c .verdict
         → Coded o (c .input) r → r ≡ exported (λ k. k) (c .verdict)
     by-sheet (refused x l) e j d = d ∙ ap (exported (λ k. k)) j
     by-sheet (accepted g) e j d =
         let h = cases-hold c m in
         let s = text (c .lines) in
-        let u = handed-sheet s (verdictOf (c .input) 1024 1024) g e in
-        let w = handed-sheet s (questionOf (c .input) firstPair 1024 1024) (h .grammar) (h .reads) in
+        let u = handed-sheet s (verdictOf (c .input) 2048 1024) g e in
+        let w = handed-sheet s (questionOf (c .input) firstPair 2048 1024) (h .grammar) (h .reads) in
         let same : h .grammar ≡ g = cc in
         let has = subst (λ (k : Grammar). Has (k .rule) (c .input) (k .start at 0) (c .outcome)) same (rw (h .starts) (h .has)) in
         d .2 ∙ ap (verdictCode (length (c .input))) (has-one (g .rule) (c .input) (g .start at 0) (d .0) (c .outcome) (d .1) has) ∙ ap (exported (λ k. k)) j

@@ -45,7 +45,7 @@ Coded (accepted g) input r = (o : Outcome) × Has (g .rule) input (g .start at 0
 
 -- "it hands over sheet and entry"; "table and work slice are then the call's own, of 1,024 cells each"
 abbrev pub VerdictCode : List ℕ → List ℕ → ℕ → Type 0
-VerdictCode sheet input r = Coded (handed sheet (verdictOf input 1024 1024)) input r
+VerdictCode sheet input r = Coded (handed sheet (verdictOf input 2048 1024)) input r
 
 -- The same of the four numbers of a first line.
 abbrev pub codeOf : List ℕ → ℕ

@@ -66,7 +66,7 @@ fn code(judgement: Judgement) -> u32
 pub extern "C" fn entryreader_verdict(sheet: &[u8], input: &[u8]) -> u32
     ensures { λ r. ⌜ VerdictCode (now (sheet .entry)) (now (input .entry)) r ⌝ }
 {
-    let mut table = [0u32; 1024];
+    let mut table = [0u32; 2048];
     let mut work = [0u32; 1024];
     code(verdict::verdict(sheet, input, &mut table, &mut work))
 }

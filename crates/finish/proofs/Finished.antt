@@ -15,7 +15,7 @@ use Rattle.finish.specs.declared.Answer.{Answer}
 
 -- Where no cell is open, there is nothing to close.
 pub none-closes : {N c : ℕ} {T : List ℕ} → ((i : ℕ) → i < N → heldAt T i ≢ openMark) → Closes N c T T
-none-closes n = record { opened = λ i l h. absurd (n i l h); others = λ i d. refl; later = refl; size = refl }
+none-closes n = record { opened = λ i l h. absurd (n i l h); others = λ i d. (refl, refl); later = refl; size = refl }
 
 -- The last step, by what the walk ended with.
 pub finishes : (n v : ℕ) {count : ℕ} (T T′ : List ℕ) {end : Walk} (r : Answer) (known : Walk) → end ≡ known → Closes (cells v n) (code (outcomeOf known)) T T′

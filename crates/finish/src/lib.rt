@@ -34,7 +34,7 @@ fn close(
     table: &mut [u32],
     work: &[u32],
 )
-    requires { ⌜ CloseReady n variables b q depth (outcome .0) (now table) (now work) ⌝ }
+    requires { ⌜ CloseReady n variables b q depth (outcome .0) (outcome .1) (now table) (now work) ⌝ }
     ensures { λ _. ⌜ Closes (cells variables n) (outcome .0) (now (table .entry)) (now (table .exit)) ⌝ }
 {
     let mut a = b;

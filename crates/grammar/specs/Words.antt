@@ -52,3 +52,7 @@ secondFor false w = w % 256 + 1
 -- The same of the word of variable A in a list of words.
 abbrev pub secondIn : List ℕ → ℕ → Bool → ℕ
 secondIn ws A flag = secondFor flag (getD ws (A - 1) 0)
+
+-- What a word's second byte says of a rule of kind 4: the variable called first.
+abbrev pub firstIn : List ℕ → ℕ → ℕ
+firstIn ws A = getD ws (A - 1) 0 / 65536 % 256 + 1

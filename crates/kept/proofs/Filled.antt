@@ -26,7 +26,7 @@ counted P d (suc n) = let r = counted P d n in elim (d n) [
   | no q ↦ (r .0, miss q (r .1))
 ]
 
-module _ (rule : ℕ → Rule) (s : List ℕ) (v : ℕ) {x : Pair} {start : Pair → ℕ} {O T : List ℕ} (leaves : Table rule s v x start O T) where
+module _ (rule : ℕ → Rule) (s : List ℕ) (v : ℕ) {x : Pair} {start : Pair → ℕ × ℕ} {O T : List ℕ} (leaves : Table rule s v x start O T) where
   abbrev n : ℕ
   n = length s
 
@@ -34,17 +34,17 @@ module _ (rule : ℕ → Rule) (s : List ℕ) (v : ℕ) {x : Pair} {start : Pair
   reached-full y r z = let k = leaves .holds y r in code-full (k .0) (sym (k .2) ∙ z)
 
   -- A cell is not blank exactly if it was not in the start or its pair is reached.
-  pub filled : (A p : ℕ) → Within v (length s) A p → (held (length s) T (A at p) ≢ 0) ↔ ((start (A at p) ≢ 0) ⊎ Reached rule s x (A at p))
+  pub filled : (A p : ℕ) → Within v (length s) A p → (held (length s) T (A at p) ≢ 0) ↔ ((start (A at p) .0 ≢ 0) ⊎ Reached rule s x (A at p))
   filled A p w = (there, back)
     where
-      there : held n T (A at p) ≢ 0 → (start (A at p) ≢ 0) ⊎ Reached rule s x (A at p)
-      there m = elim (ℕ-discrete (held n T (A at p)) (start (A at p))) [
+      there : held n T (A at p) ≢ 0 → (start (A at p) .0 ≢ 0) ⊎ Reached rule s x (A at p)
+      there m = elim (ℕ-discrete (held n T (A at p)) (start (A at p) .0)) [
         | yes e ↦ inl (λ z. m (e ∙ z))
         | no d ↦ inr (leaves .others A p w d)
       ]
 
-      back : (start (A at p) ≢ 0) ⊎ Reached rule s x (A at p) → held n T (A at p) ≢ 0
-      back (inl m) = elim (ℕ-discrete (held n T (A at p)) (start (A at p))) [
+      back : (start (A at p) .0 ≢ 0) ⊎ Reached rule s x (A at p) → held n T (A at p) ≢ 0
+      back (inl m) = elim (ℕ-discrete (held n T (A at p)) (start (A at p) .0)) [
         | yes e ↦ λ z. m (sym e ∙ z)
         | no d ↦ reached-full (A at p) (leaves .others A p w d)
       ]
@@ -53,7 +53,7 @@ module _ (rule : ℕ → Rule) (s : List ℕ) (v : ℕ) {x : Pair} {start : Pair
   -- ---- By the numbers of the cells.
 
   abbrev Was : ℕ → Type 0
-  Was i = start (pairOf (length s) i) ≢ 0
+  Was i = start (pairOf (length s) i) .0 ≢ 0
 
   abbrev Is : ℕ → Type 0
   Is i = held (length s) T (pairOf (length s) i) ≢ 0
@@ -66,7 +66,7 @@ module _ (rule : ℕ → Rule) (s : List ℕ) (v : ℕ) {x : Pair} {start : Pair
   new-iff i l = (
     λ h. elim (filled _ _ (pair-within v n i l) .0 (h .1)) [
       | inl m ↦ absurd (h .0 m)
-      | inr r ↦ elim (ℕ-discrete (start (pairOf n i)) 0) [
+      | inr r ↦ elim (ℕ-discrete (start (pairOf n i) .0) 0) [
         | yes e ↦ (r, e)
         | no d ↦ absurd (h .0 d)
       ]
@@ -84,7 +84,7 @@ module _ (rule : ℕ → Rule) (s : List ℕ) (v : ℕ) {x : Pair} {start : Pair
   )
 
   decide : (i : ℕ) → Dec ((¬ Was i) × Is i)
-  decide i = elim (ℕ-discrete (start (pairOf n i)) 0) [
+  decide i = elim (ℕ-discrete (start (pairOf n i) .0) 0) [
     | yes e ↦ elim (ℕ-discrete (held n T (pairOf n i)) 0) [
       | yes f ↦ no (λ h. h .1 f)
       | no d ↦ yes (λ m. m e, d)
@@ -100,7 +100,7 @@ module _ (rule : ℕ → Rule) (s : List ℕ) (v : ℕ) {x : Pair} {start : Pair
     new-number = number-cells v n (New rule s x start) (λ y h. reached-cell rule s v closed x within (h .0) .0) (count-map new-iff (new .1))
 
     -- So many cells were not blank, and so many are new: together so many are not blank.
-    pub new-more : {b : ℕ} → Count (λ i. start (pairOf (length s) i) ≢ 0) (cells v (length s)) b
+    pub new-more : {b : ℕ} → Count (λ i. start (pairOf (length s) i) .0 ≢ 0) (cells v (length s)) b
         → (c : ℕ) × Number (New rule s x start) c × Count (λ i. held (length s) T (pairOf (length s) i) ≢ 0) (cells v (length s)) (b + c)
     new-more was = (new .0, new-number, count-map either-iff (count-both was (new .1)))
 

@@ -1,20 +1,23 @@
 -- The numbers that refusal 19 lets pass, and that those of a kept table are among them. Assumes nothing.
 use mathlib.Core.Bool.{Bool, true, false, not, _&&_, _||_, true≢false}
 use mathlib.Core.List.{List}
+use mathlib.Core.Logic.{_≢_}
 use mathlib.Core.Path.{_≡_, refl, sym, ap, _∙_}
-use Prim.Native.Nat.{ℕ, zero, suc, _+_, _-_, _≤_, _<_}
+use Prim.Native.Nat.{ℕ, zero, suc, _+_, _≤_, _<_}
 use native.Mathlib.Decide.{ℕ-discrete}
 use native.Mathlib.Numerals.{add-one}
 use native.Mathlib.Omega.{arith}
-use lib.Dec.{ltb}
+use lib.Dec.{eqb, ltb}
 use lib.ListN.{length}
-use borrow.Author.Tests.{ltb-true, ltb-false, lt-ltb, le-ltb}
+use borrow.Author.Tests.{ne-eqb, ltb-false, lt-ltb, le-ltb}
 use Rattle.grammar.specs.Rule.{Rule}
 use Rattle.grammar.proofs.Fitting.{neither-true}
 use Rattle.schema.specs.Derivation.{Pair, _at_, success, failure, missing, end, Outcome, result, stopped, loop, Has}
+use Rattle.schema.specs.Examined.{Reaches}
 use Rattle.schema.specs.Table.{Within, code}
 use Rattle.schema.proofs.Ends.{derives-ends}
-use Rattle.kept.specs.Kept.{retained}
+use Rattle.schema.proofs.Examined.{reach-bounds}
+use Rattle.kept.specs.Kept.{isResult, retained}
 use Rattle.kept.specs.Range.{outOfRange, some, retainedOut}
 use Rattle.kept.proofs.RightCells.{RightCells}
 
@@ -53,20 +56,27 @@ some-one m test i l e = go (some m test) refl
 -- ---- Numbers in range.
 
 -- What passes is at most 5 + n;
-pub range-most : (n p k : ℕ) → outOfRange n p k ≡ false → k ≤ 5 + n
-range-most n p k e = ltb-false (5 + n) k (neither-true (ltb (5 + n) k) (not (ltb k 5) && ltb k (5 + p)) e .0)
+pub range-most : (n p : ℕ) (k : ℕ × ℕ) → outOfRange n p k ≡ false → k .0 ≤ 5 + n
+range-most n p k e =
+    let a = neither-true (ltb (5 + n) (k .0) || (not (ltb (k .0) 5) && ltb (k .0) (5 + p))) (isResult (k .0) && ltb (k .1) p) e .0 in
+    ltb-false (5 + n) (k .0) (neither-true (ltb (5 + n) (k .0)) (not (ltb (k .0) 5) && ltb (k .0) (5 + p)) a .0)
 
--- a number below 5 passes,
-pub range-low : (n p k : ℕ) → k < 5 → outOfRange n p k ≡ false
-range-low n p k l = rw (le-ltb (5 + n) k (omega arith), lt-ltb k 5 l)
+-- a number that is no result's passes,
+pub range-low : (n p o m : ℕ) → o < 5 → o ≢ 1 → outOfRange n p (o, m) ≡ false
+range-low n p o m l d = rw (le-ltb (5 + n) o (omega arith), lt-ltb o 5 l, ne-eqb o 1 d)
 
--- and for a greater one up to 5 + n it counts whether its end is left of the position.
-range-end : (n p k : ℕ) → 5 ≤ k → k ≤ 5 + n → outOfRange n p k ≡ ltb (k - 5) p
-range-end n p k l m = rw (le-ltb (5 + n) k m, le-ltb k 5 l) (by-test (ltb (k - 5) p) refl)
+-- failure passes with a reach that is not left of the position,
+range-failure : (n p m : ℕ) → p ≤ m → outOfRange n p (1, m) ≡ false
+range-failure n p m l = rw (le-ltb (5 + n) 1 (omega arith), le-ltb m p l)
+
+-- and success with an end too.
+range-success : (n p q m : ℕ) → p ≤ q → q ≤ n → p ≤ m → outOfRange n p (5 + q, m) ≡ false
+range-success n p q m l h r =
+    rw (le-ltb (5 + n) (5 + q) (omega arith), le-ltb (5 + q) 5 (omega arith), le-ltb (5 + q) (5 + p) (omega arith), le-ltb m p r) (by-test (eqb (5 + q) 1))
   where
-    by-test : (b : Bool) → ltb (k - 5) p ≡ b → ltb k (5 + p) ≡ ltb (k - 5) p
-    by-test true h = let q = ltb-true (k - 5) p h in lt-ltb k (5 + p) (omega arith) ∙ sym h
-    by-test false h = let q = ltb-false (k - 5) p h in le-ltb k (5 + p) (omega arith) ∙ sym h
+    by-test : (b : Bool) → ((b || true) && false) ≡ false
+    by-test true = refl
+    by-test false = refl
 
 -- ---- A retained cell.
 
@@ -88,17 +98,19 @@ module _ (v n c : ℕ) (T : List ℕ) where
 
 -- A right cell is in range.
 module _ (rule : ℕ → Rule) (v : ℕ) (s : List ℕ) where
-  outcome-in : (A p : ℕ) (o : Outcome) → p ≤ length s → Has rule s (A at p) o → outOfRange (length s) p (code o) ≡ false
-  outcome-in A p (result (success q)) l h = let e = derives-ends rule s l (h .2) in range-end (length s) p (5 + q) (omega arith) (omega (arith, e .1)) ∙ le-ltb (5 + q - 5) p (omega (arith, e .0))
-  outcome-in A p (result failure) l h = range-low (length s) p 1 (omega arith)
-  outcome-in A p (stopped missing) l h = range-low (length s) p 3 (omega arith)
-  outcome-in A p (stopped end) l h = range-low (length s) p 4 (omega arith)
-  outcome-in A p loop l h = range-low (length s) p 2 (omega arith)
+  outcome-in : (A p m : ℕ) (o : Outcome) → p ≤ length s → Has rule s (A at p) o → Reaches rule s (A at p) o m → outOfRange (length s) p (code o, m) ≡ false
+  outcome-in A p m (result (success q)) l h r =
+      let e = derives-ends rule s {x = A at p} l (h .2) in
+      range-success (length s) p q m (e .0) (e .1) (reach-bounds rule s {x = A at p} l r .0)
+  outcome-in A p m (result failure) l h r = range-failure (length s) p m (reach-bounds rule s {x = A at p} l r .0)
+  outcome-in A p m (stopped missing) l h r = range-low (length s) p 3 m (omega arith) (λ e. omega arith)
+  outcome-in A p m (stopped end) l h r = range-low (length s) p 4 m (omega arith) (λ e. omega arith)
+  outcome-in A p m loop l h r = range-low (length s) p 2 m (omega arith) (λ e. omega arith)
 
-  pub right-in : {H : Pair → ℕ} → RightCells rule v s H → (A p : ℕ) → Within v (length s) A p → outOfRange (length s) p (H (A at p)) ≡ false
-  right-in {H} h A p w = elim (ℕ-discrete (H (A at p)) 0) [
-    | yes e ↦ range-low (length s) p (H (A at p)) (omega arith)
+  pub right-in : {H : Pair → ℕ × ℕ} → RightCells rule v s H → (A p : ℕ) → Within v (length s) A p → outOfRange (length s) p (H (A at p)) ≡ false
+  right-in {H} h A p w = elim (ℕ-discrete (H (A at p) .0) 0) [
+    | yes e ↦ range-low (length s) p (H (A at p) .0) (H (A at p) .1) (omega arith) (λ z. omega arith)
     | no d ↦
         let k = h .right A p w d in
-        ap (outOfRange (length s) p) (k .2) ∙ outcome-in A p (k .0) (w .position) (k .1)
+        ap (λ (o : ℕ). outOfRange (length s) p (o, H (A at p) .1)) (k .2) ∙ outcome-in A p (H (A at p) .1) (k .0) (w .position) (k .1) (k .3)
   ]

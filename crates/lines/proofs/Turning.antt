@@ -7,11 +7,12 @@ use Prim.Native.Nat.{ℕ, _-_, _/_, _≤_, _<_}
 use native.Mathlib.Omega.{arith}
 use types.Run.{OneOf}
 use denote.Enum.Declared.{tagOf}
-use lib.ListN.{length, getD}
+use lib.ListN.{length}
 use Rattle.grammar.specs.Rule.{Rule}
 use Rattle.rules.specs.Act.{told}
 use Rattle.rules.specs.declared.Act.{Act}
 use Rattle.rules.specs.declared.Act.the-variants as code
+use Rattle.schema.specs.Cells.{heldAt, HasCell}
 use Rattle.schema.specs.Closed.{Variable}
 use Rattle.schema.specs.Derivation.{Pair, _at_, Result, success, failure, calls, act, second}
 use Rattle.schema.specs.Table.{cell, cells, held}
@@ -45,12 +46,15 @@ module _ {n p b c d : ℕ} {T W : List ℕ} (r : CallsReady n p b c d T W) where
   number-cell X q i l = cell-in (r .variables) n W X q (r .few) (r .short) (r .work-room) i l
 
   -- That of b in the table.
-  pub first-cell : {i : ℕ} → i ≡ cell n (b at p) → i < length T
-  first-cell e = let k = cell-in (r .variables) n T b p (r .few) (r .short) (r .room) (r .b-in) (r .position-in) .4 in omega arith
+  pub first-cell : {i : ℕ} → i ≡ cell n (b at p) → HasCell T i
+  first-cell e =
+      let k = cell-below (r .variables) n (b at p) (record { variable = r .b-in; position = r .position-in }) in
+      let m = r .room in
+      omega arith
 
-  module _ {f i : ℕ} (e : f ≡ getD T i 0) (j : i ≡ cell n (b at p)) where
+  module _ {f i : ℕ} (e : f ≡ heldAt T i) (j : i ≡ cell n (b at p)) where
     found : held n T (b at p) ≡ f
-    found = ap (λ (k : ℕ). getD T k 0) (sym j) ∙ sym e
+    found = ap (λ (k : ℕ). heldAt T k) (sym j) ∙ sym e
 
     -- b did not fail: its code is that of an end, a position of the input.
     pub ends : f ≢ 1 → (5 ≤ f) × (f - 5 ≤ n)

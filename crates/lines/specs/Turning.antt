@@ -33,7 +33,7 @@ pub record CallsReady (n p b c d : ℕ) (T W : List ℕ) : Type 0 where
   pub variables : ℕ
   pub few : variables ≤ 256
   pub short : n ≤ 4096
-  pub room : cells variables n ≤ length T
+  pub room : 2 * cells variables n ≤ length T
   pub work-room : cells variables n ≤ length W
   pub position-in : p ≤ n
   pub b-in : Variable variables b
@@ -76,7 +76,7 @@ pub record TurnReady (rule : ℕ → Rule) (s : List ℕ) (v A p : ℕ) (T W : L
   pub short : length s ≤ 4096
   pub closed : Closed v rule
   pub within : Within v (length s) A p
-  pub room : cells v (length s) ≤ length T
+  pub room : 2 * cells v (length s) ≤ length T
   pub work-room : cells v (length s) ≤ length W
   pub found : Result
   pub settled : Settled (length s) (held (length s) T (A at p)) found

@@ -5,6 +5,7 @@ ghost use mathlib.Core.List.{_++_};
 ghost use Prim.Native.Nat.{_+_, _*_, _≤_, _<_};
 ghost use lib.ListN.{length, set, take, drop};
 ghost use Rattle.grammar.specs.Words.{ruleIn};
+ghost use Rattle.schema.specs.Cells.{HasCell};
 ghost use Rattle.schema.specs.Derivation.{_at_, Result, second};
 ghost use Rattle.schema.specs.Line.{lineOf, lineBytes};
 ghost use Rattle.schema.specs.Table.{cell, held};
@@ -102,7 +103,7 @@ fn result_line(out: &mut [u8], variable: u32, position: u32, cell: Cell, first: 
 
 // Lays the line of a pair down after those already written, through a part of the output.
 pub fn lay_line(n: usize, table: &[u32], out: &mut [u8], x: Stand, first: u32, second: u32)
-    requires { ⌜ (1 ≤ x .variable) × (x .variable ≤ 256) × (n ≤ 4096) × (x .position ≤ n) × (cell n (x .variable at x .position) < length (now table)) × Code (held n (now table) (x .variable at x .position)) × (49 * x .lines + 49 ≤ length (now out)) ⌝ }
+    requires { ⌜ (1 ≤ x .variable) × (x .variable ≤ 256) × (n ≤ 4096) × (x .position ≤ n) × HasCell (now table) (cell n (x .variable at x .position)) × Code (held n (now table) (x .variable at x .position)) × (49 * x .lines + 49 ≤ length (now out)) ⌝ }
     ensures { λ _. ⌜ now (out .exit) ≡ take (49 * x .lines) (now (out .entry)) ++ (lineBytes (lineOf (x .variable at x .position) (resultOf (held n (now (table .entry)) (x .variable at x .position))) first second) ++ drop (49 * x .lines + 49) (now (out .entry))) ⌝ }
 {
     let found = Cell::load(table, cell_number(n, x.variable, x.position));

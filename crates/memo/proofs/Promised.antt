@@ -2,7 +2,7 @@
 use mathlib.Core.Path.{_≡_, refl, sym, ap, _∙_, subst}
 use mathlib.Core.Logic.{_↔_}
 use mathlib.Core.List.{List, [], _∷_, List·Memᴰ}
-use Prim.Native.Nat.{ℕ, _≤_}
+use Prim.Native.Nat.{ℕ, _*_, _≤_}
 use lib.ListN.{length}
 use borrow.Author.Tests.{le-ltb}
 use Rattle.columns.specs.Column.{leading, column, row, digitsAfter, number, field, fields}
@@ -16,7 +16,7 @@ use Rattle.schema.specs.Handed.{Handed, handed, questionOf}
 use Rattle.schema.specs.Reached.{Reached, Number}
 use Rattle.schema.specs.Table.{Within, cells}
 use Rattle.schema.proofs.Cases.{cases-hold}
-use Rattle.schema.proofs.Handed.{handed-sheet, handed-pair, handed-slices}
+use Rattle.schema.proofs.Handed.{handed-sheet, handed-pair}
 use Rattle.schema.proofs.Tested.{question-follows}
 use Rattle.rules.proofs.Admitted.{question-accepted}
 use Rattle.finish.specs.Reply.{Reply, reply, outcomeOf, countOf, told}
@@ -32,9 +32,6 @@ module _ (s input : List ℕ) (A p : ℕ) (table work : List ℕ) where
     within : Within (g .variables) (length input) A p
     within = handed-pair s call g accepts (A at p) refl
 
-    room : cells (g .variables) (length input) ≤ length table
-    room = handed-slices s call g accepts (length table) (length work) refl .0
-
     module _ (table′ work′ : List ℕ) (r : Answer) (promise : QuestionPromise s input A p table table′ work work′ r) where
       -- What is not refused is answered.
       pub question-answers : Says (g .rule) (g .variables) input (A at p) table table′ work work′ (told r)
@@ -46,9 +43,9 @@ module _ (s input : List ℕ) (A p : ℕ) (table work : List ℕ) where
       question-reply = (
         question-answers .0,
         question-answers .1,
-        count-is s call g accepts (A at p) within room (question-answers .2),
-        count-most s call g accepts (A at p) within room (question-answers .2),
-        outcome-is s call g accepts (A at p) within room (question-answers .2),
+        count-is s call g accepts (A at p) within (question-answers .2),
+        count-most s call g accepts (A at p) within (question-answers .2),
+        outcome-is s call g accepts (A at p) within (question-answers .2),
       )
 
   -- One result only: the same answer and the same table.
@@ -60,39 +57,39 @@ module _ (s input : List ℕ) (A p : ℕ) (table work : List ℕ) where
           → Replies o input (A at p) table table″ work work″ (told t) → (told r ≡ told t) × (table′ ≡ table″)
       by-sheet (refused x l) e m k = (m .0 ∙ sym (k .0), m .1 ∙ sym (k .1))
       by-sheet (accepted g) e m k = (
-        m .1 ∙ ap accepted (one-answer s call g e (A at p) (within g e) (room g e) (m .2) (k .2)) ∙ sym (k .1),
-        one-table s call g e (A at p) (within g e) (room g e) (m .2) (k .2),
+        m .1 ∙ ap accepted (one-answer s call g e (A at p) (within g e) (m .2) (k .2)) ∙ sym (k .1),
+        one-table s call g e (A at p) (within g e) (m .2) (k .2),
       )
 
 -- ---- The marked cases.
 
--- A marked case is accepted with any table and work slice of at least V times (n + 1) cells,
-pub case-accepted : (c : Case) → List·Memᴰ c cases → (table work : ℕ) → cells (grammarOf (text (c .lines)) .variables) (length (c .input)) ≤ table
+-- A marked case is accepted with any table of at least V times (n + 1) cells, two numbers each, and any work slice of as many numbers,
+pub case-accepted : (c : Case) → List·Memᴰ c cases → (table work : ℕ) → 2 * cells (grammarOf (text (c .lines)) .variables) (length (c .input)) ≤ table
     → cells (grammarOf (text (c .lines)) .variables) (length (c .input)) ≤ work
     → handed (text (c .lines)) (questionOf (c .input) firstPair table work) ≡ accepted (grammarOf (text (c .lines)))
 case-accepted c m table work e f =
     let h = cases-hold c m in
     let s = text (c .lines) in
-    let marked = questionOf (c .input) firstPair 1024 1024 in
+    let marked = questionOf (c .input) firstPair 2048 1024 in
     let same : grammarOf s ≡ h .grammar = describes s (h .grammar) (handed-sheet s marked (h .grammar) (h .reads)) .grammar-is in
     let plain = question-accepted s marked (h .grammar) 1 0 (h .reads) refl ∙ ap accepted (sym same) in
     question-follows s (c .input) 1 0 table work (accepted (grammarOf s)) plain ∙ rw (le-ltb table _ e, le-ltb work _ f)
 
 -- and answered as document 01 says.
 pub case-answered : (c : Case) → List·Memᴰ c cases → (table table′ work work′ : List ℕ) (r : Answer)
-    → cells (grammarOf (text (c .lines)) .variables) (length (c .input)) ≤ length table
+    → 2 * cells (grammarOf (text (c .lines)) .variables) (length (c .input)) ≤ length table
     → cells (grammarOf (text (c .lines)) .variables) (length (c .input)) ≤ length work
     → QuestionPromise (text (c .lines)) (c .input) 1 0 table table′ work work′ r → told r ≡ accepted (reply (c .outcome) (c .named) (c .count))
 case-answered c m table table′ work work′ r e f promise =
     let h = cases-hold c m in
     let s = text (c .lines) in
     let g = h .grammar in
-    let marked = questionOf (c .input) firstPair 1024 1024 in
+    let marked = questionOf (c .input) firstPair 2048 1024 in
     let accepts : handed s (questionOf (c .input) (1 at 0) (length table) (length work)) ≡ accepted g =
     case-accepted c m (length table) (length work) e f ∙ ap accepted (describes s g (handed-sheet s marked g (h .reads)) .grammar-is) in
     let a = question-answers s (c .input) 1 0 table work g accepts table′ work′ r promise in
     a .1 ∙ ap accepted (answer-is s (questionOf (c .input) (1 at 0) (length table) (length work)) g accepts (1 at 0) (within s (c .input) 1 0 table work g accepts)
-    (room s (c .input) 1 0 table work g accepts) (a .2) (c .outcome) (c .named) (c .count) (h .has) (h .names) (h .counts))
+    (a .2) (c .outcome) (c .named) (c .count) (h .has) (h .names) (h .counts))
 
 -- The 24 cells of case a.
 pub cells-a : cells (grammarOf (text sheetH) .variables) 3 ≡ 24
@@ -100,7 +97,7 @@ unfolding text leading column row digitsAfter number field fields lineAt
 cells-a = refl
 
 -- Case a: "H, `-6.`: success ending 3, 5 cells".
-pub case-a : (table table′ work work′ : List ℕ) (r : Answer) → 24 ≤ length table → 24 ≤ length work
+pub case-a : (table table′ work work′ : List ℕ) (r : Answer) → 48 ≤ length table → 24 ≤ length work
     → QuestionPromise (text sheetH) (45 ∷ 54 ∷ 46 ∷ []) 1 0 table table′ work work′ r → told r ≡ accepted (reply (result (success 3)) (0 at 0) 5)
 unfolding cases
 case-a table table′ work work′ r e f promise =
@@ -112,7 +109,7 @@ unfolding text leading column row digitsAfter number field fields lineAt
 cells-g = refl
 
 -- Case g: "Rule 1 = 1(1,1), empty entry: loop, named (1, 0), 1 cell."
-pub case-g : (table table′ work work′ : List ℕ) (r : Answer) → 1 ≤ length table → 1 ≤ length work
+pub case-g : (table table′ work work′ : List ℕ) (r : Answer) → 2 ≤ length table → 1 ≤ length work
     → QuestionPromise (text (header 1 ∷ (1 ∷ 4 ∷ 1 ∷ 1 ∷ 1 ∷ []) ∷ [])) [] 1 0 table table′ work work′ r → told r ≡ accepted (reply loop (1 at 0) 1)
 unfolding cases
 case-g table table′ work work′ r e f promise =

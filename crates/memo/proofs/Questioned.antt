@@ -2,7 +2,7 @@
 use mathlib.Core.Path.{_≡_, sym, _∙_}
 use mathlib.Core.Bool.{Bool, true, false, cond, _||_}
 use mathlib.Core.List.{List}
-use Prim.Native.Nat.{ℕ, _≤_}
+use Prim.Native.Nat.{ℕ, _*_, _≤_}
 use lib.Dec.{ltb}
 use lib.ListN.{length}
 use Rattle.grammar.specs.Refusal.{Checked, refused, accepted}
@@ -45,7 +45,7 @@ module _ {s input : List ℕ} {A p : ℕ} {before after : List ℕ} {r : Sheet} 
     pub in-bounds : (l .variables ≤ 256) × (length input ≤ 4096)
     in-bounds = (few-variables s (read .grammar) accepts (read .variables-are) (read .rules-are), read .input-short)
 
-    module _ {small : Bool} (tested : small ≡ (ltb (length table) (cells (l .variables) (length input)) || ltb (length work) (cells (l .variables) (length input)))) where
+    module _ {small : Bool} (tested : small ≡ (ltb (length table) (2 * cells (l .variables) (length input)) || ltb (length work) (cells (l .variables) (length input)))) where
       pub tested-is : slicesOut s input A p (length table) (length work) (read .grammar) ≡ small
       tested-is = rw (read .variables-are) (sym tested)
 

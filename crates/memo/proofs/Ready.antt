@@ -2,7 +2,7 @@
 use mathlib.Core.Path.{_≡_, sym, subst}
 use mathlib.Core.Bool.{false, _||_}
 use mathlib.Core.List.{List}
-use Prim.Native.Nat.{ℕ, _≤_}
+use Prim.Native.Nat.{ℕ, _*_, _≤_}
 use lib.Dec.{ltb}
 use lib.ListN.{length}
 use borrow.Author.Tests.{ltb-false}
@@ -26,15 +26,15 @@ module _ (s : List ℕ) {array : List ℕ} {v : ℕ} (g : Grammar) (accepts : sh
 
   -- What asking is handed, once the slices are found long enough.
   pub ready : (input table work : List ℕ) (A p : ℕ) → length input ≤ 4096 → Within (g .variables) (length input) A p
-      → (ltb (length table) (cells v (length input)) || ltb (length work) (cells v (length input))) ≡ false → AskReady (ruleIn array) input v A p table work
+      → (ltb (length table) (2 * cells v (length input)) || ltb (length work) (cells v (length input))) ≡ false → AskReady (ruleIn array) input v A p table work
   ready input table work A p short w h =
-      let z = neither-true (ltb (length table) (cells v (length input))) (ltb (length work) (cells v (length input))) h in
+      let z = neither-true (ltb (length table) (2 * cells v (length input))) (ltb (length work) (cells v (length input))) h in
       record {
         few = few-variables;
         short = short;
         closed = subst (λ (n : ℕ). Closed n (ruleIn array)) variables-are (subst (Closed (g .variables)) (sym rules-are) (sheet-closed s g accepts));
         within = subst (λ (n : ℕ). Within n (length input) A p) variables-are w;
-        room = ltb-false (length table) (cells v (length input)) (z .0);
+        room = ltb-false (length table) (2 * cells v (length input)) (z .0);
         work-room = ltb-false (length work) (cells v (length input)) (z .1);
       }
 

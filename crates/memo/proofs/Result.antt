@@ -4,9 +4,8 @@ use mathlib.Core.Logic.{_≢_, _↔_}
 use mathlib.Core.List.{List}
 use Prim.Native.Nat.{ℕ, zero, suc, _+_, _/_, _%_, _≤_, _<_}
 use native.Mathlib.Decide.{ℕ-discrete}
-use native.Mathlib.Numerals.{add-one}
 use native.Mathlib.Omega.{arith}
-use lib.ListN.{length, take}
+use lib.ListN.{length}
 use Rattle.calls.proofs.Count.{Count, none, hit, miss, count-map, count-le}
 use Rattle.grammar.specs.Refusal.{accepted}
 use Rattle.grammar.specs.Sheet.{Grammar}
@@ -25,18 +24,17 @@ use Rattle.schema.proofs.Laws.{has-one, named-one, number-one}
 use Rattle.schema.proofs.SheetClosed.{sheet-closed}
 use Rattle.finish.specs.Reply.{Reply, reply, outcomeOf, countOf}
 use Rattle.memo.specs.Answer.{Answers}
-use Rattle.walk.proofs.Decided.{decided-none, decided-blank, decided-more}
+use Rattle.walk.proofs.Decided.{decided-blank, decided-more}
 use Rattle.memo.proofs.TableOne.{table-one}
 
 -- The count of decided cells counts the cells that are not blank.
-pub decided-count : (T : List ℕ) (m : ℕ) → m ≤ length T → Count (λ i. heldAt T i ≢ 0) m (decided (take m T))
-decided-count T zero l = subst (Count (λ i. heldAt T i ≢ 0) 0) (sym (decided-none T)) none
-decided-count T (suc m) l =
-    let before = decided-count T m (omega arith) in
-    elim (ℕ-discrete (heldAt T m) 0) [
-      | yes e ↦ rw (← add-one m, decided-blank T m (omega arith) e) (rw (add-one m) (miss (λ d. d e) before))
-      | no d ↦ rw (← add-one m, decided-more T m (omega arith) d, add-one (decided (take m T)), add-one m) (hit d before)
-    ]
+pub decided-count : (T : List ℕ) (m : ℕ) → Count (λ i. heldAt T i ≢ 0) m (decided m T)
+unfolding decided
+decided-count T zero = none
+decided-count T (suc m) = elim (ℕ-discrete (heldAt T m) 0) [
+  | yes e ↦ subst (Count (λ i. heldAt T i ≢ 0) (suc m)) (sym (decided-blank T m e)) (miss (λ d. d e) (decided-count T m))
+  | no d ↦ subst (Count (λ i. heldAt T i ≢ 0) (suc m)) (sym (decided-more T m d)) (hit d (decided-count T m))
+]
 
 -- ---- Of an answer, whatever call gave it.
 
@@ -53,7 +51,7 @@ module _ (s : List ℕ) (h : Handed) (g : Grammar) (accepts : handed s h ≡ acc
   closed : Closed (g .variables) (g .rule)
   closed = sheet-closed s g (handed-sheet s h g accepts)
 
-  module _ {table table′ work work′ : List ℕ} {a : Reply} (room : cells (g .variables) (length (h .input)) ≤ length table)
+  module _ {table table′ work work′ : List ℕ} {a : Reply}
       (answers : Answers (g .rule) (g .variables) (h .input) x table table′ work work′ a) where
     -- A cell is blank exactly if its pair is not reached.
     filled : (i : ℕ) → i < size → (heldAt table′ i ≢ 0) ↔ Reached (g .rule) input x (pairOf n i)
@@ -63,8 +61,8 @@ module _ (s : List ℕ) (h : Handed) (g : Grammar) (accepts : handed s h ≡ acc
           λ r. let k = answers .leaves .holds (pairOf n i) r in λ q. code-full (k .0) (sym (k .2) ∙ e ∙ q),
         )
 
-    counted : Count (λ i. Reached (g .rule) input x (pairOf n i)) size (decided (take size table′))
-    counted = count-map filled (decided-count table′ size (subst (λ (k : ℕ). size ≤ k) (sym (answers .leaves .size)) room))
+    counted : Count (λ i. Reached (g .rule) input x (pairOf n i)) size (decided size table′)
+    counted = count-map filled (decided-count table′ size)
 
     -- The count is the number of reached pairs,
     pub count-is : Number (Reached (g .rule) (h .input) x) (countOf a)
@@ -89,18 +87,18 @@ module _ (s : List ℕ) (h : Handed) (g : Grammar) (accepts : handed s h ≡ acc
         let q : answers .named ≡ z = named-one (g .rule) input x (answers .named) z o (subst (λ (u : Outcome). Named (g .rule) input x u (answers .named)) p (answers .names)) named in
         let k : countOf a ≡ c = number-one count-is number in
         let e = answers .says in
-        let f : countOf a ≡ decided (take size table′) = ap countOf e in
-        let m : decided (take size table′) ≡ c = sym f ∙ k in
+        let f : countOf a ≡ decided size table′ = ap countOf e in
+        let m : decided size table′ ≡ c = sym f ∙ k in
         cc
 
   -- Two answers to one question are the same, with the same table.
-  module _ {table table′ table″ work work′ work″ : List ℕ} {a b : Reply} (room : cells (g .variables) (length (h .input)) ≤ length table)
+  module _ {table table′ table″ work work′ work″ : List ℕ} {a b : Reply}
       (one : Answers (g .rule) (g .variables) (h .input) x table table′ work work′ a)
       (other : Answers (g .rule) (g .variables) (h .input) x table table″ work work″ b) where
     pub one-answer : a ≡ b
     one-answer =
-        let e : b ≡ reply (other .outcome) (other .named) (countOf b) = answer-is room other (other .outcome) (other .named) (countOf b) (other .has) (other .names) (count-is room other) in
-        answer-is room one (other .outcome) (other .named) (countOf b) (other .has) (other .names) (count-is room other) ∙ sym e
+        let e : b ≡ reply (other .outcome) (other .named) (countOf b) = answer-is other (other .outcome) (other .named) (countOf b) (other .has) (other .names) (count-is other) in
+        answer-is one (other .outcome) (other .named) (countOf b) (other .has) (other .names) (count-is other) ∙ sym e
 
     pub one-table : table′ ≡ table″
     one-table = table-one (one .leaves) (other .leaves) (one .leaves .later ∙ sym (other .leaves .later)) (one .leaves .size ∙ sym (other .leaves .size))

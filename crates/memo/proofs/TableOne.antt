@@ -1,53 +1,89 @@
 -- The table that a question leaves is one, whatever the cells hold at its start. Assumes nothing.
-use mathlib.Core.Path.{_≡_, refl, sym, ap, _∙_}
+use mathlib.Core.Path.{_≡_, refl, sym, ap, _∙_, subst}
 use mathlib.Core.Bool.{Bool, true, false}
 use mathlib.Core.List.{List}
-use Prim.Native.Nat.{ℕ, _+_, _-_, _<_}
+use Prim.Native.Nat.{ℕ, _+_, _-_, _*_, _/_, _%_, _<_}
 use native.Mathlib.Decide.{ℕ-discrete}
 use native.Mathlib.Omega.{arith}
 use lib.Dec.{ltb}
-use lib.ListN.{length, drop}
+use lib.ListN.{length, getD, drop}
 use borrow.Author.Tests.{ltb-true, ltb-false}
 use lib.Seq.{ext-getD, getD-drop}
 use Rattle.grammar.specs.Rule.{Rule}
-use Rattle.schema.specs.Cells.{heldAt}
-use Rattle.schema.specs.Derivation.{Pair}
+use Rattle.schema.specs.Cells.{heldAt, reachAt}
+use Rattle.schema.specs.Derivation.{Pair, Outcome}
+use Rattle.schema.specs.Examined.{Reaches}
 use Rattle.schema.specs.Reached.{Reached}
-use Rattle.schema.specs.Table.{cells, code, held, Table}
-use Rattle.schema.proofs.Cell.{pairOf, cell-pair, pair-within}
+use Rattle.schema.specs.Table.{cells, code, held, reach, Table}
+use Rattle.schema.proofs.Cell.{pairOf, held-pair, reach-pair, pair-within}
+use Rattle.schema.proofs.Examined.{reaches-one}
 use Rattle.schema.proofs.Laws.{has-one}
 
-module _ {rule : ℕ → Rule} {s : List ℕ} {v : ℕ} {x : Pair} {start : Pair → ℕ} {O P T U : List ℕ} (t : Table rule s v x start O T) (u : Table rule s v x start P U) where
-  reached-same : (y : Pair) → Reached rule s x y → held (length s) T y ≡ held (length s) U y
+module _ {rule : ℕ → Rule} {s : List ℕ} {v : ℕ} {x : Pair} {start : Pair → ℕ × ℕ} {O P T U : List ℕ} (t : Table rule s v x start O T) (u : Table rule s v x start P U) where
+  abbrev n : ℕ
+  n = length s
+
+  abbrev N : ℕ
+  N = cells v (length s)
+
+  reached-same : (y : Pair) → Reached rule s x y → (held n T y ≡ held n U y) × (reach n T y ≡ reach n U y)
   reached-same y k =
       let a = t .holds y k in
       let b = u .holds y k in
-      a .2 ∙ ap code (has-one rule s y (a .0) (b .0) (a .1) (b .1)) ∙ sym (b .2)
+      let o = has-one rule s y (a .0) (b .0) (a .1) (b .1) in (
+        a .2 ∙ ap code o ∙ sym (b .2),
+        reaches-one rule s y (b .0) (reach n T y) (reach n U y) (subst (λ (p : Outcome). Reaches rule s y p (reach n T y)) o (a .3)) (b .3),
+      )
 
-  within-same : (i : ℕ) → i < cells v (length s) → held (length s) T (pairOf (length s) i) ≡ held (length s) U (pairOf (length s) i)
-  within-same i l =
-      let y = pairOf (length s) i in
-      let w = pair-within v (length s) i l in
-      elim (ℕ-discrete (held (length s) T y) (start y)) [
-        | yes e ↦ elim (ℕ-discrete (held (length s) U y) (start y)) [
-          | yes f ↦ e ∙ sym f
-          | no d ↦ reached-same y (u .others _ _ w d)
-        ]
-        | no d ↦ reached-same y (t .others _ _ w d)
+  held-same : (i : ℕ) → i < N → heldAt T i ≡ heldAt U i
+  held-same i l = sym (held-pair n T i) ∙ within-same ∙ held-pair n U i
+    where
+      within-same : held n T (pairOf n i) ≡ held n U (pairOf n i)
+      within-same =
+          let w = pair-within v n i l in
+          elim (ℕ-discrete (held n T (pairOf n i)) (start (pairOf n i) .0)) [
+            | yes e ↦ elim (ℕ-discrete (held n U (pairOf n i)) (start (pairOf n i) .0)) [
+              | yes f ↦ e ∙ sym f
+              | no d ↦ reached-same (pairOf n i) (u .others _ _ w d) .0
+            ]
+            | no d ↦ reached-same (pairOf n i) (t .others _ _ w d) .0
+          ]
+
+  reach-same : (i : ℕ) → i < N → reachAt T i ≡ reachAt U i
+  reach-same i l = sym (reach-pair n T i) ∙ within-same ∙ reach-pair n U i
+    where
+      within-same : reach n T (pairOf n i) ≡ reach n U (pairOf n i)
+      within-same =
+          let w = pair-within v n i l in
+          elim (ℕ-discrete (reach n T (pairOf n i)) (start (pairOf n i) .1)) [
+            | yes e ↦ elim (ℕ-discrete (reach n U (pairOf n i)) (start (pairOf n i) .1)) [
+              | yes f ↦ e ∙ sym f
+              | no d ↦ reached-same (pairOf n i) (u .others-reach _ _ w d) .1
+            ]
+            | no d ↦ reached-same (pairOf n i) (t .others-reach _ _ w d) .1
+          ]
+
+  -- A number of the table is the first or the second of a cell.
+  number-same : (j : ℕ) → j < 2 * N → getD T j 0 ≡ getD U j 0
+  number-same j l =
+      let h : j / 2 < N = omega arith in
+      elim (ℕ-discrete (j % 2) 0) [
+        | yes e ↦ let q : 2 * (j / 2) ≡ j = omega arith in subst (λ (k : ℕ). getD T k 0 ≡ getD U k 0) q (held-same (j / 2) h)
+        | no d ↦ let q : 2 * (j / 2) + 1 ≡ j = omega arith in subst (λ (k : ℕ). getD T k 0 ≡ getD U k 0) q (reach-same (j / 2) h)
       ]
 
   -- Two tables that a question leaves are equal where they are beyond its cells.
-  pub table-one : drop (cells v (length s)) T ≡ drop (cells v (length s)) U → length T ≡ length U → T ≡ U
+  pub table-one : drop (2 * cells v (length s)) T ≡ drop (2 * cells v (length s)) U → length T ≡ length U → T ≡ U
   table-one e z = ext-getD 0 T U z at-each
     where
-      at-each : (i : ℕ) → i < length T → heldAt T i ≡ heldAt U i
-      at-each i l = by-test (ltb i (cells v (length s))) refl
+      at-each : (i : ℕ) → i < length T → getD T i 0 ≡ getD U i 0
+      at-each i l = by-test (ltb i (2 * N)) refl
         where
-          by-test : (b : Bool) → ltb i (cells v (length s)) ≡ b → heldAt T i ≡ heldAt U i
-          by-test true h = rw (cell-pair (length s) i) at (within-same i (ltb-true i (cells v (length s)) h))
+          by-test : (b : Bool) → ltb i (2 * N) ≡ b → getD T i 0 ≡ getD U i 0
+          by-test true h = number-same i (ltb-true i (2 * N) h)
           by-test false h =
-              let k = ltb-false i (cells v (length s)) h in
-              let q : cells v (length s) + (i - cells v (length s)) ≡ i = omega arith in
-              ap (λ (j : ℕ). heldAt T j) (sym q) ∙ sym (getD-drop (cells v (length s)) T (i - cells v (length s)) 0)
-              ∙ ap (λ (D : List ℕ). heldAt D (i - cells v (length s))) e ∙ getD-drop (cells v (length s)) U (i - cells v (length s)) 0
-              ∙ ap (λ (j : ℕ). heldAt U j) q
+              let k = ltb-false i (2 * N) h in
+              let q : 2 * N + (i - 2 * N) ≡ i = omega arith in
+              ap (λ (j : ℕ). getD T j 0) (sym q) ∙ sym (getD-drop (2 * N) T (i - 2 * N) 0)
+              ∙ ap (λ (D : List ℕ). getD D (i - 2 * N) 0) e ∙ getD-drop (2 * N) U (i - 2 * N) 0
+              ∙ ap (λ (j : ℕ). getD U j 0) q

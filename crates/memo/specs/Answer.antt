@@ -2,7 +2,7 @@
 use mathlib.Core.List.{List}
 use mathlib.Core.Path.{_≡_}
 use Prim.Native.Nat.{ℕ}
-use lib.ListN.{length, take, drop}
+use lib.ListN.{length, drop}
 use Rattle.grammar.specs.Refusal.{Checked, refused, accepted}
 use Rattle.grammar.specs.Rule.{Rule}
 use Rattle.grammar.specs.Sheet.{Grammar}
@@ -19,7 +19,7 @@ pub record Answers (rule : ℕ → Rule) (v : ℕ) (input : List ℕ) (x : Pair)
   pub named : Pair
   pub has : Has rule input x outcome
   pub names : Named rule input x outcome named
-  pub says : r ≡ reply outcome named (decided (take (cells v (length input)) table′))
+  pub says : r ≡ reply outcome named (decided (cells v (length input)) table′)
   pub leaves : Table rule input v x blanked table table′
   -- "The work slice is left free within its first V times (n + 1) numbers and unchanged beyond."
   pub beyond : drop (cells v (length input)) work′ ≡ drop (cells v (length input)) work

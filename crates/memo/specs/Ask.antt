@@ -1,6 +1,6 @@
 -- What asking asks, once the refusals are tested. Assumes nothing.
 use mathlib.Core.List.{List}
-use Prim.Native.Nat.{ℕ, _≤_}
+use Prim.Native.Nat.{ℕ, _*_, _≤_}
 use lib.ListN.{length}
 use Rattle.grammar.specs.Rule.{Rule}
 use Rattle.schema.specs.Closed.{Closed}
@@ -12,5 +12,5 @@ pub record AskReady (rule : ℕ → Rule) (input : List ℕ) (v A p : ℕ) (tabl
   pub short : length input ≤ 4096
   pub closed : Closed v rule
   pub within : Within v (length input) A p
-  pub room : cells v (length input) ≤ length table
+  pub room : 2 * cells v (length input) ≤ length table
   pub work-room : cells v (length input) ≤ length work

@@ -1,7 +1,7 @@
 // The table engine: questions over a lent table.
 ghost use mathlib.Core.Bool.{_||_};
 ghost use mathlib.Core.Path.{_≡_};
-ghost use Prim.Native.Nat.{_≤_};
+ghost use Prim.Native.Nat.{_*_, _≤_};
 ghost use lib.Dec.{ltb};
 ghost use Rattle.grammar.specs.Words.{ruleIn};
 ghost use Rattle.schema.specs.Derivation.{_at_};
@@ -29,17 +29,17 @@ pub fn ask(
     requires { ⌜ AskReady (ruleIn (now rules)) (now input) variables variable position (now table) (now work) ⌝ }
     ensures { λ r. ⌜ Says (ruleIn (now (rules .entry))) variables (now (input .entry)) (variable at position) (now (table .entry)) (now (table .exit)) (now (work .entry)) (now (work .exit)) (told r) ⌝ }
 {
-    blank(table, variables as usize * (input.len() + 1));
+    blank(table, 2 * (variables as usize * (input.len() + 1)));
     ask_over(rules, input, variables, variable, position, table, work)
 }
 
-// Refusal 10: the table or the work slice has fewer numbers than there are cells.
+// Refusal 10: the table has fewer than two numbers for each cell, or the work slice fewer than one.
 pub fn too_small(variables: u32, n: usize, table: usize, work: usize) -> bool
     requires { ⌜ (variables ≤ 256) × (n ≤ 4096) ⌝ }
-    ensures { λ r. ⌜ r ≡ (ltb table (cells variables n) || ltb work (cells variables n)) ⌝ }
+    ensures { λ r. ⌜ r ≡ (ltb table (2 * cells variables n) || ltb work (cells variables n)) ⌝ }
 {
     let size = variables as usize * (n + 1);
-    if table < size {
+    if table < 2 * size {
         return true;
     }
     work < size

@@ -46,5 +46,5 @@ one-output s input out out′ out″ r t one other = by-test (ltb (length out) 5
     by-test : (b : Bool) → PutsWhere b s input out out′ r → PutsWhere b s input out out″ t → (r ≡ t) × (out′ ≡ out″)
     by-test true m k = (m .0 ∙ sym (k .0), m .1 ∙ sym (k .1))
     by-test false m k =
-        let same = printing-one (handed s (verdictOf input 1024 1024)) input (m .0) (k .0) (m .1) (k .1) in
+        let same = printing-one (handed s (verdictOf input 2048 1024)) input (m .0) (k .0) (m .1) (k .1) in
         (m .2 ∙ ap length same ∙ sym (k .2), m .3 ∙ ap (λ (b : List ℕ). b ++ drop (length b) out) same ∙ sym (k .3))

@@ -13,7 +13,7 @@ use Rattle.schema.specs.Handed.{handed, verdictOf, writerOf}
 use Rattle.schema.specs.Line.{linesBytes}
 use Rattle.schema.specs.Reached.{Reached, Number}
 use Rattle.schema.proofs.Codes.{verdict-code-most}
-use Rattle.schema.proofs.Handed.{handed-sheet, handed-slices}
+use Rattle.schema.proofs.Handed.{handed-sheet}
 use Rattle.schema.proofs.Laws.{has-one}
 use Rattle.schema.proofs.LineLength.{lines-length}
 use Rattle.schema.proofs.SheetClosed.{start-within}
@@ -30,8 +30,8 @@ not-refused : (n : ℕ) (o : Outcome) (z : Pair) (count : ℕ) → getD (judged 
 not-refused n o (A at p) count e = let k = verdict-code-most n o in omega arith
 
 -- What the writer wrote, by the outcome of the start variable.
-module _ (s input : List ℕ) (tables works : ℕ) (tables-are : tables ≡ 1024) (works-are : works ≡ 1024) (o o′ : List ℕ) (count : ℕ) (room : 50176 ≤ length o)
-    (g : Grammar) (h : handed s (verdictOf input 1024 1024) ≡ accepted g) (w : Writing s input tables works o o′ count) where
+module _ (s input : List ℕ) (tables works : ℕ) (tables-are : tables ≡ 2048) (works-are : works ≡ 1024) (o o′ : List ℕ) (count : ℕ) (room : 50176 ≤ length o)
+    (g : Grammar) (h : handed s (verdictOf input 2048 1024) ≡ accepted g) (w : Writing s input tables works o o′ count) where
   start : w .start ≡ g .start
   start = w .start-is g (handed-sheet s _ g h)
 
@@ -39,7 +39,7 @@ module _ (s input : List ℕ) (tables works : ℕ) (tables-are : tables ≡ 1024
   accepts =
       ap (λ (A : ℕ). handed s (writerOf input (A at 0) (length (w .table)) (length (w .work)) (length o))) start
       ∙ ap (λ (k : ℕ). handed s (writerOf input (g .start at 0) k (length (w .work)) (length o))) (w .table-length ∙ tables-are)
-      ∙ ap (λ (k : ℕ). handed s (writerOf input (g .start at 0) 1024 k (length o))) (w .work-length ∙ works-are)
+      ∙ ap (λ (k : ℕ). handed s (writerOf input (g .start at 0) 2048 k (length o))) (w .work-length ∙ works-are)
       ∙ writer-accepted s input g h (length o) room
 
   said : SaysWriting (g .rule) (g .variables) input (w .start at 0) (w .table) (w .table′) (w .work) (w .work′) o o′ (told (w .written .answer)) (w .written .lines)
@@ -65,16 +65,16 @@ module _ (s input : List ℕ) (tables works : ℕ) (tables-are : tables ≡ 1024
 -- What stands behind the first line: the bytes bs, then what stood there.
 pub record Behind (s input : List ℕ) (j : Judgement) (o o′ : List ℕ) (count : ℕ) : Type 0 where
   pub bytes : List ℕ
-  pub printing : Printing (handed s (verdictOf input 1024 1024)) input (row 8 (numbers j) ++ bytes)
+  pub printing : Printing (handed s (verdictOf input 2048 1024)) input (row 8 (numbers j) ++ bytes)
   pub size : length bytes ≡ 49 * count
   pub put : o′ ≡ bytes ++ drop (length bytes) o
 
-module _ (s input table table′ work work′ : List ℕ) (j : Judgement) (e : length table ≡ 1024) (f : length work ≡ 1024)
+module _ (s input table table′ work work′ : List ℕ) (j : Judgement) (e : length table ≡ 2048) (f : length work ≡ 1024)
     (promise : VerdictPromise s input table table′ work work′ j) (o o′ : List ℕ) (count : ℕ)
-    {code tables works : ℕ} (code-is : code ≡ getD (numbers j) 0 0) (tables-are : tables ≡ 1024) (works-are : works ≡ 1024)
+    {code tables works : ℕ} (code-is : code ≡ getD (numbers j) 0 0) (tables-are : tables ≡ 2048) (works-are : works ≡ 1024)
     (certificate : Certificate s input code tables works o o′ count) (room : 50176 ≤ length o) where
   -- A verdict that is refused has nothing there,
-  refused-behind : (x l : ℕ) → handed s (verdictOf input 1024 1024) ≡ refused x l → numbers j ≡ judged (length input) (refused x l) → Behind s input j o o′ count
+  refused-behind : (x l : ℕ) → handed s (verdictOf input 2048 1024) ≡ refused x l → numbers j ≡ judged (length input) (refused x l) → Behind s input j o o′ count
   refused-behind x l h m =
       let n = certificate .nothing (code-is ∙ ap (λ (xs : List ℕ). getD xs 0 0) m) in
       let k = n .0 in
@@ -86,7 +86,7 @@ module _ (s input table table′ work work′ : List ℕ) (j : Judgement) (e : l
       }
 
   -- and every other its certificate.
-  accepted-behind : (g : Grammar) → handed s (verdictOf input 1024 1024) ≡ accepted g
+  accepted-behind : (g : Grammar) → handed s (verdictOf input 2048 1024) ≡ accepted g
       → Judges (accepted g) input table table′ work work′ (numbers j) → Behind s input j o o′ count
   accepted-behind g h m =
       let a = m .2 .2 in
@@ -104,7 +104,7 @@ module _ (s input table table′ work work′ : List ℕ) (j : Judgement) (e : l
           has = a .has;
           names = a .names;
           counts = subst (Number (Reached (g .rule) input (g .start at 0))) (ap countOf (a .says))
-              (count-is s (verdictOf input 1024 1024) g h (g .start at 0) (start-within s g (handed-sheet s _ g h)) (rw e (handed-slices s _ g h 1024 1024 refl .0)) a);
+              (count-is s (verdictOf input 2048 1024) g h (g .start at 0) (start-within s g (handed-sheet s _ g h)) a);
           ordered = u .ordered;
           says = ap (λ (xs : List ℕ). row 8 xs ++ linesBytes (u .lines)) same;
         };
@@ -113,8 +113,8 @@ module _ (s input table table′ work work′ : List ℕ) (j : Judgement) (e : l
       }
 
   pub behind : Behind s input j o o′ count
-  behind = by-sheet (handed s (verdictOf input 1024 1024)) refl (rw (e, f) at promise)
+  behind = by-sheet (handed s (verdictOf input 2048 1024)) refl (rw (e, f) at promise)
     where
-      by-sheet : (c : Checked Grammar) → handed s (verdictOf input 1024 1024) ≡ c → Judges c input table table′ work work′ (numbers j) → Behind s input j o o′ count
+      by-sheet : (c : Checked Grammar) → handed s (verdictOf input 2048 1024) ≡ c → Judges c input table table′ work work′ (numbers j) → Behind s input j o o′ count
       by-sheet (refused x l) h m = refused-behind x l h (m .0)
       by-sheet (accepted g) h m = accepted-behind g h m

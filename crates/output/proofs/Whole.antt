@@ -13,7 +13,7 @@ use Rattle.output.specs.Output.{Certificate, Puts}
 use Rattle.output.proofs.Printed.{behind}
 use Rattle.output.proofs.Joined.{four-numbers, lent-is, joined}
 
-module _ (s input table table′ work work′ out : List ℕ) (j : Judgement) (e : length table ≡ 1024) (f : length work ≡ 1024)
+module _ (s input table table′ work work′ out : List ℕ) (j : Judgement) (e : length table ≡ 2048) (f : length work ≡ 1024)
     (promise : VerdictPromise s input table table′ work work′ j) (room : 50209 ≤ length out) (four line : List ℕ) (four-are : four ≡ numbers j)
     (line-is : line ≡ row 8 (getD four 0 0 ∷ getD four 1 0 ∷ getD four 2 0 ∷ getD four 3 0 ∷ [])) where
   size : length line ≡ 33
@@ -23,7 +23,7 @@ module _ (s input table table′ work work′ out : List ℕ) (j : Judgement) (e
   first =
       line-is ∙ ap (λ (xs : List ℕ). row 8 (getD xs 0 0 ∷ getD xs 1 0 ∷ getD xs 2 0 ∷ getD xs 3 0 ∷ [])) four-are ∙ ap (row 8) (four-numbers j)
 
-  pub output-put : (ys : List ℕ) (count tables works : ℕ) → tables ≡ 1024 → works ≡ 1024
+  pub output-put : (ys : List ℕ) (count tables works : ℕ) → tables ≡ 2048 → works ≡ 1024
       → Certificate s input (getD four 0 0) tables works (midOf 33 (length (line ++ postOf 0 33 out) - 33) (line ++ postOf 0 33 out)) ys count
       → Puts s input out (putMid 33 (length (line ++ postOf 0 33 out) - 33) (line ++ postOf 0 33 out) ys) (33 + 49 * count)
   output-put ys count tables works p q certificate =

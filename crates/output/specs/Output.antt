@@ -39,7 +39,7 @@ Printing (accepted g) input bytes = Printed (g .rule) input (g .start at 0) byte
 
 -- "with 1,024 cells": these bytes, then what stood there, and their count.
 abbrev pub Puts : List ℕ → List ℕ → List ℕ → List ℕ → ℕ → Type 0
-Puts s input out out′ r = (bytes : List ℕ) × Printing (handed s (verdictOf input 1024 1024)) input bytes × (r ≡ length bytes) × (out′ ≡ bytes ++ drop (length bytes) out)
+Puts s input out out′ r = (bytes : List ℕ) × Printing (handed s (verdictOf input 2048 1024)) input bytes × (r ≡ length bytes) × (out′ ≡ bytes ++ drop (length bytes) out)
 
 -- A slice of fewer than 33 + 50,176 bytes is left as it is.
 abbrev pub PutsWhere : Bool → List ℕ → List ℕ → List ℕ → List ℕ → ℕ → Type 0

@@ -47,7 +47,7 @@ pub fn write_output(sheet: &[u8], input: &[u8], out: &mut [u8]) -> usize
     if out.len() < 50209 {
         return 0;
     }
-    let mut table = [0u32; 1024];
+    let mut table = [0u32; 2048];
     let mut work = [0u32; 1024];
     let four = numbers_of(verdict::verdict(sheet, input, &mut table, &mut work));
     let code = four[0];

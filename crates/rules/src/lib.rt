@@ -9,8 +9,9 @@ ghost use Prim.Native.Nat.{ℕ, _≤_};
 ghost use lib.Dec.{eqb};
 ghost use lib.ListN.{length, getD};
 ghost use Rattle.classes.specs.Class.{classOf};
-ghost use Rattle.grammar.specs.Words.{ruleIn, secondIn};
+ghost use Rattle.grammar.specs.Words.{ruleIn, firstIn, secondIn};
 ghost use Rattle.schema.specs.Derivation.{act, oneByte, _at_};
+ghost use Rattle.schema.specs.Examined.{leafReach};
 ghost use Rattle.rules.specs.Act.{told};
 ghost use Rattle.rules.specs.Admission.{Admission};
 
@@ -71,6 +72,26 @@ pub fn act_at(rules: &Rules, input: &[u8], variable: u32, position: u32) -> Act
         return Act::Failure;
     }
     Act::Missing
+}
+
+// How far a leaf looks, at a position: one past it where it looks at a byte.
+pub fn leaf_reach(rules: &Rules, variable: u32, position: u32) -> u32
+    requires { ⌜ (1 ≤ variable) × (variable ≤ 256) × (position ≤ 4096) ⌝ }
+    ensures { λ r. ⌜ r ≡ leafReach (ruleIn (now (rules .entry)) variable) position ⌝ }
+{
+    let kind = rules[variable as usize - 1] / 16777216;
+    if (kind == 3) | (kind == 4) {
+        return position + 1;
+    }
+    position
+}
+
+// The variable that a kind 4 rule calls first. Of any other rule, what its word's byte says.
+pub fn first_of(rules: &Rules, variable: u32) -> u32
+    requires { ⌜ (1 ≤ variable) × (variable ≤ 256) ⌝ }
+    ensures { λ r. ⌜ r ≡ firstIn (now (rules .entry)) variable ⌝ }
+{
+    rules[variable as usize - 1] / 65536 % 256 + 1
 }
 
 // The variable that a kind 4 rule calls second: C on success, D on failure. Of any other rule, what its word's bytes say.

@@ -47,9 +47,9 @@ stepsOf unknown = none
 
 unfoldable foundBy : Case → List ℕ → Grammar → Walked Result Stop → Found
 foundBy c s g w =
-    found (isAccepted (handed s (questionOf (c .input) firstPair 1024 1024))) (outcomeIn w) (nameIn (length (c .input)) w) (countIn (g .variables) (length (c .input)) w)
+    found (isAccepted (handed s (questionOf (c .input) firstPair 2048 1024))) (outcomeIn w) (nameIn (length (c .input)) w) (countIn (g .variables) (length (c .input)) w)
     (stepsOf (eval (g .rule) (c .input) 20 firstPair)) (machine (g .rule) (c .input) firstPair (c .budget) (c .room)) (g .start)
-    (judged (length (c .input)) (c .outcome) (handed s (verdictOf (c .input) 1024 1024)))
+    (judged (length (c .input)) (c .outcome) (handed s (verdictOf (c .input) 2048 1024)))
 
 unfoldable computed : Case → Found
 computed c =
@@ -88,9 +88,9 @@ unfolding foundBy computed given
 case-holds c e =
     let s = text (c .lines) in
     let g = grammarOf s in
-    let r : handed s (questionOf (c .input) firstPair 1024 1024) ≡ accepted g = handed-is s (questionOf (c .input) firstPair 1024 1024) (cc) in
-    let closed = sheet-closed s g (handed-sheet s (questionOf (c .input) firstPair 1024 1024) g r) in
-    let within = handed-pair s (questionOf (c .input) firstPair 1024 1024) g r firstPair refl in
+    let r : handed s (questionOf (c .input) firstPair 2048 1024) ≡ accepted g = handed-is s (questionOf (c .input) firstPair 2048 1024) (cc) in
+    let closed = sheet-closed s g (handed-sheet s (questionOf (c .input) firstPair 2048 1024) g r) in
+    let within = handed-pair s (questionOf (c .input) firstPair 2048 1024) g r firstPair refl in
     let rule = g .rule in
     let input = c .input in
     let v = g .variables in

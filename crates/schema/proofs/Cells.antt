@@ -1,36 +1,62 @@
 -- The laws of a stored cell: all that the proofs above know of how a list holds a table. Assumes nothing.
 use mathlib.Core.List.{List}
 use mathlib.Core.Logic.{_≢_}
-use mathlib.Core.Path.{_≡_, ap}
-use Prim.Native.Nat.{ℕ, _<_}
-use lib.ListN.{length, drop, length-set}
-use lib.Seq.{getD-set-same, getD-set-other, drop-set-lt, set-set}
+use mathlib.Core.Path.{_≡_, ap, ap₂, _∙_}
+use Prim.Native.Nat.{ℕ, _+_, _*_, _<_}
+use native.Mathlib.Omega.{arith}
+use lib.ListN.{length, set, drop, length-set}
+use lib.Seq.{getD-set-same, getD-set-other, drop-set-lt, set-set, set-comm, lt-length-set}
 use Rattle.calls.proofs.Table.{Mark, Put}
-use Rattle.schema.specs.Cells.{heldAt, stored}
+use Rattle.schema.specs.Cells.{heldAt, reachAt, cellAt, stored, HasCell}
 
--- There is what was stored,
-pub stored-there : (T : List ℕ) (i c : ℕ) → i < length T → heldAt (stored T i c) i ≡ c
-stored-there T i c l = getD-set-same T i c 0 l
+-- There is what was stored, the outcome
+pub stored-there : (T : List ℕ) (i c m : ℕ) → HasCell T i → heldAt (stored T i c m) i ≡ c
+unfolding stored
+stored-there T i c m l = getD-set-other (set T (2 * i) c) (2 * i + 1) (2 * i) m 0 (λ e. omega arith) ∙ getD-set-same T (2 * i) c 0 (omega arith)
+
+-- and the reach,
+pub stored-reach : (T : List ℕ) (i c m : ℕ) → HasCell T i → reachAt (stored T i c m) i ≡ m
+unfolding stored
+stored-reach T i c m l = getD-set-same (set T (2 * i) c) (2 * i + 1) m 0 (lt-length-set T (2 * i) c l)
 
 -- elsewhere what was there before.
-pub stored-elsewhere : (T : List ℕ) (i j c : ℕ) → j ≢ i → heldAt (stored T i c) j ≡ heldAt T j
-stored-elsewhere T i j c d = getD-set-other T i j c 0 d
+pub stored-elsewhere : (T : List ℕ) (i j c m : ℕ) → j ≢ i → heldAt (stored T i c m) j ≡ heldAt T j
+unfolding stored
+stored-elsewhere T i j c m d =
+    getD-set-other (set T (2 * i) c) (2 * i + 1) (2 * j) m 0 (λ e. omega arith) ∙ getD-set-other T (2 * i) (2 * j) c 0 (λ e. d (omega arith))
+
+pub reach-elsewhere : (T : List ℕ) (i j c m : ℕ) → j ≢ i → reachAt (stored T i c m) j ≡ reachAt T j
+unfolding stored
+reach-elsewhere T i j c m d =
+    getD-set-other (set T (2 * i) c) (2 * i + 1) (2 * j + 1) m 0 (λ e. d (omega arith)) ∙ getD-set-other T (2 * i) (2 * j + 1) c 0 (λ e. omega arith)
+
+-- The same of both numbers.
+pub stored-cell : (T : List ℕ) (i c m : ℕ) → HasCell T i → cellAt (stored T i c m) i ≡ (c, m)
+stored-cell T i c m l = ap₂ (λ (a b : ℕ). (a, b)) (stored-there T i c m l) (stored-reach T i c m l)
+
+pub cell-elsewhere : (T : List ℕ) (i j c m : ℕ) → j ≢ i → cellAt (stored T i c m) j ≡ cellAt T j
+cell-elsewhere T i j c m d = ap₂ (λ (a b : ℕ). (a, b)) (stored-elsewhere T i j c m d) (reach-elsewhere T i j c m d)
 
 -- Later cells are unchanged,
-pub stored-later : (N : ℕ) (T : List ℕ) (i c : ℕ) → i < N → drop N (stored T i c) ≡ drop N T
-stored-later N T i c l = drop-set-lt N T i c l
+pub stored-later : (N : ℕ) (T : List ℕ) (i c m : ℕ) → i < N → drop (2 * N) (stored T i c m) ≡ drop (2 * N) T
+unfolding stored
+stored-later N T i c m l = drop-set-lt (2 * N) (set T (2 * i) c) (2 * i + 1) m (omega arith) ∙ drop-set-lt (2 * N) T (2 * i) c (omega arith)
 
 -- and so is the length.
-pub stored-length : (T : List ℕ) (i c : ℕ) → length (stored T i c) ≡ length T
-stored-length T i c = length-set T i c
+pub stored-length : (T : List ℕ) (i c m : ℕ) → length (stored T i c m) ≡ length T
+unfolding stored
+stored-length T i c m = length-set (set T (2 * i) c) (2 * i + 1) m ∙ length-set T (2 * i) c
 
 -- Stored twice, the later holds.
-pub stored-twice : (T : List ℕ) (i c d : ℕ) → stored (stored T i c) i d ≡ stored T i d
-stored-twice T i c d = set-set T i c d
+pub stored-twice : (T : List ℕ) (i c k d m : ℕ) → stored (stored T i c k) i d m ≡ stored T i d m
+unfolding stored
+stored-twice T i c k d m =
+    ap (λ (U : List ℕ). set U (2 * i + 1) m) (set-comm (set T (2 * i) c) (2 * i + 1) (2 * i) k d (λ e. omega arith))
+    ∙ set-set (set (set T (2 * i) c) (2 * i) d) (2 * i + 1) k m ∙ ap (λ (U : List ℕ). set U (2 * i + 1) m) (set-set T (2 * i) c d)
 
 -- The table of marks that a table of codes stands for: a store puts the code's mark.
 abbrev pub view : {A : Type 0} → (ℕ → Mark A) → List ℕ → ℕ → Mark A
 view mark T i = mark (heldAt T i)
 
-pub view-stored : {A : Type 0} (mark : ℕ → Mark A) (T : List ℕ) (i c : ℕ) → i < length T → Put (view mark T) i (mark c) (view mark (stored T i c))
-view-stored mark T i c l = record { there = ap mark (stored-there T i c l); others = λ j d. ap mark (stored-elsewhere T i j c d) }
+pub view-stored : {A : Type 0} (mark : ℕ → Mark A) (T : List ℕ) (i c m : ℕ) → HasCell T i → Put (view mark T) i (mark c) (view mark (stored T i c m))
+view-stored mark T i c m l = record { there = ap mark (stored-there T i c m l); others = λ j d. ap mark (stored-elsewhere T i j c m d) }

@@ -54,13 +54,13 @@ module _ (s : List ℕ) (h : Handed) (g : Grammar) (e : handed s h ≡ accepted 
 
   -- Table and work slice, where they are handed over, are long enough,
   pub handed-slices : (table work : ℕ) → h .slices ≡ some (table, work)
-      → (cells (g .variables) (length (h .input)) ≤ table) × (cells (g .variables) (length (h .input)) ≤ work)
+      → (2 * cells (g .variables) (length (h .input)) ≤ table) × (cells (g .variables) (length (h .input)) ≤ work)
   unfolding callCondition
   handed-slices table work q =
       let count = cells (g .variables) (length (h .input)) in
-      let a = tested-is (h .slices) (λ l. ltb (l .0) count || ltb (l .1) count) (table, work) q (call-clear .1 .1 .1 .1 .0) in
-      let b = neither-true (ltb table count) (ltb work count) a in
-      (ltb-false table count (b .0), ltb-false work count (b .1))
+      let a = tested-is (h .slices) (λ l. ltb (l .0) (2 * count) || ltb (l .1) count) (table, work) q (call-clear .1 .1 .1 .1 .0) in
+      let b = neither-true (ltb table (2 * count)) (ltb work count) a in
+      (ltb-false table (2 * count) (b .0), ltb-false work count (b .1))
 
   -- and so is the output.
   pub handed-output : (out : ℕ) → h .output ≡ some out → 49 * cells (g .variables) (length (h .input)) ≤ out

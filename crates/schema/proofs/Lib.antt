@@ -9,6 +9,7 @@ pub mod Laws
 pub mod TwoInputs
 pub mod Cell
 pub mod Ends
+pub mod Examined
 pub mod Closed
 pub mod Answer
 pub mod Held
@@ -25,3 +26,4 @@ pub mod Lines
 pub mod Small
 pub mod Eval
 pub mod Cases
+pub mod Reaches

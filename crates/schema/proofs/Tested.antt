@@ -2,7 +2,7 @@
 use mathlib.Core.Path.{_≡_, refl, ap, sym, _∙_, subst}
 use mathlib.Core.Bool.{Bool, true, false, cond, not, _||_}
 use mathlib.Core.List.{List}
-use Prim.Native.Nat.{ℕ}
+use Prim.Native.Nat.{ℕ, _*_}
 use lib.Dec.{ltb}
 use lib.ListN.{length}
 use Rattle.grammar.specs.Refusal.{Checked, refused, accepted, checked}
@@ -37,14 +37,14 @@ questioned : (s input : List ℕ) (g : Grammar) (A p table work : ℕ) {a b c : 
     → ltb 4096 (length input) ≡ a → within 1 (g .variables) A ≡ b → ltb (length input) p ≡ c
     → handed s (questionOf input (A at p) table work)
     ≡ cond a (refused 6 0) (cond (not b) (refused 8 0) (cond c (refused 9 0)
-    (cond (ltb table (cells (g .variables) (length input)) || ltb work (cells (g .variables) (length input))) (refused 10 0) (accepted g))))
+    (cond (ltb table (2 * cells (g .variables) (length input)) || ltb work (cells (g .variables) (length input))) (refused 10 0) (accepted g))))
 unfolding checked callCondition
 questioned s input g A p table work e k l m = handed-then s (questionOf input (A at p) table work) g e ∙ rw (k, l, m)
 
 -- A question is refused as its first part is; else 10 is tested.
 module _ (s input : List ℕ) (A p table work : ℕ) where
   abbrev pub slicesOut : Grammar → Bool
-  slicesOut g = ltb table (cells (g .variables) (length input)) || ltb work (cells (g .variables) (length input))
+  slicesOut g = ltb table (2 * cells (g .variables) (length input)) || ltb work (cells (g .variables) (length input))
 
   abbrev pub Follows : Checked Grammar → Type 0
   Follows (refused x l) = handed s (questionOf input (A at p) table work) ≡ refused x l
@@ -71,7 +71,7 @@ module _ (s input : List ℕ) (A p table work : ℕ) where
 -- A verdict by its tests for 6, 7 and 10.
 pub verdict-by : (s input : List ℕ) (g : Grammar) (table work : ℕ) (a b c : Bool) → sheet s ≡ accepted g
     → ltb 4096 (length input) ≡ a → closedBy (g .endmarker) input ≡ b
-    → (ltb table (cells (g .variables) (length input)) || ltb work (cells (g .variables) (length input))) ≡ c
+    → (ltb table (2 * cells (g .variables) (length input)) || ltb work (cells (g .variables) (length input))) ≡ c
     → handed s (verdictOf input table work) ≡ cond a (refused 6 0) (cond (not b) (refused 7 0) (cond c (refused 10 0) (accepted g)))
 unfolding checked callCondition
 verdict-by s input g table work a b c e k l m = handed-then s (verdictOf input table work) g e ∙ rw (k, l, m)

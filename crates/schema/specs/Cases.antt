@@ -108,11 +108,11 @@ judged n o (accepted g) = accepted (verdictCode n o)
 -- The sheet is accepted, and the definitions give what the case says; table and work slice have 1,024 cells.
 pub record CaseHolds (c : Case) : Type 0 where
   pub grammar : Grammar
-  pub reads : handed (text (c .lines)) (questionOf (c .input) firstPair 1024 1024) ≡ accepted grammar
+  pub reads : handed (text (c .lines)) (questionOf (c .input) firstPair 2048 1024) ≡ accepted grammar
   pub has : Has (grammar .rule) (c .input) firstPair (c .outcome)
   pub names : Named (grammar .rule) (c .input) firstPair (c .outcome) (c .named)
   pub counts : Number (Reached (grammar .rule) (c .input) firstPair) (c .count)
   pub derived : Derived (grammar .rule) (c .input) firstPair (c .outcome) (c .steps)
   pub runs : machine (grammar .rule) (c .input) firstPair (c .budget) (c .room) ≡ c .run
   pub starts : grammar .start ≡ 1
-  pub judges : judged (length (c .input)) (c .outcome) (handed (text (c .lines)) (verdictOf (c .input) 1024 1024)) ≡ c .verdict
+  pub judges : judged (length (c .input)) (c .outcome) (handed (text (c .lines)) (verdictOf (c .input) 2048 1024)) ≡ c .verdict

@@ -43,9 +43,9 @@ pairVariableOut v (A at p) = not (within 1 v A)
 abbrev pub pairPositionOut : ℕ → Pair → Bool
 pairPositionOut n (A at p) = ltb n p
 
--- "10, table or work slice under V times (n + 1)."
+-- "10, table or work slice under V times (n + 1).", order 6: "The table then needs twice the numbers under 10."
 abbrev pub slicesShort : ℕ → ℕ × ℕ → Bool
-slicesShort count l = ltb (l .0) count || ltb (l .1) count
+slicesShort count l = ltb (l .0) (2 * count) || ltb (l .1) count
 
 -- "11, output under 49 times V times (n + 1)."
 abbrev pub outputShort : ℕ → ℕ → Bool

@@ -1,5 +1,6 @@
 -- What a grammar means on an input: the generalized TMG Recognition Schema (gTS).
 pub mod Derivation
+pub mod Examined
 pub mod Reached
 pub mod Table
 pub mod Cells

@@ -9,15 +9,18 @@ use lib.Dec.{eqb}
 use lib.ListN.{length}
 use borrow.Author.Tests.{eq-eqb, ne-eqb}
 use Rattle.grammar.specs.Rule.{Rule}
-use Rattle.schema.specs.Cells.{heldAt}
+use Rattle.schema.specs.Cells.{heldAt, reachAt}
 use Rattle.schema.specs.Derivation.{Pair, _at_, Result, success, failure, gives, act, leaf}
-use Rattle.schema.specs.Table.{cell, held}
+use Rattle.schema.specs.Table.{cell, held, reach}
 use Rattle.schema.proofs.Ends.{derives-ends}
 use Rattle.step.specs.Codes.{openMark, Settled, Fits, resultOf, fresh}
 
 -- The cell that was loaded.
 pub held-is : (n : ℕ) (T : List ℕ) (y : Pair) (c i : ℕ) → c ≡ heldAt T i → i ≡ cell n y → held n T y ≡ c
 held-is n T y c i e f = ap (λ (j : ℕ). heldAt T j) (sym f) ∙ sym e
+
+pub reach-is : (n : ℕ) (T : List ℕ) (y : Pair) (m i : ℕ) → m ≡ reachAt T i → i ≡ cell n y → m ≡ reach n T y
+reach-is n T y m i e f = e ∙ ap (λ (j : ℕ). reachAt T j) f
 
 -- What its code says.
 pub failure-settled : (n c : ℕ) → c ≡ 1 → Settled n c failure

@@ -3,13 +3,14 @@ use mathlib.Core.Bool.{true, false}
 use mathlib.Core.List.{List}
 use mathlib.Core.Logic.{_⊎_}
 use mathlib.Core.Path.{_≡_}
-use Prim.Native.Nat.{ℕ, _+_, _/_, _%_, _≤_, _<_}
+use Prim.Native.Nat.{ℕ, _+_, _/_, _%_, max, _≤_, _<_}
 use lib.Dec.{eqb}
 use lib.ListN.{length, getD, set}
 use Rattle.grammar.specs.Rule.{Rule, call}
-use Rattle.schema.specs.Cells.{stored}
+use Rattle.schema.specs.Cells.{stored, HasCell}
 use Rattle.schema.specs.Derivation.{Pair, _at_, Result, Stop, missing, end, gives, stops, calls, act, second}
-use Rattle.schema.specs.Table.{Within, cell, cells, held}
+use Rattle.schema.specs.Examined.{leafReachOf}
+use Rattle.schema.specs.Table.{Within, cell, cells, held, reach}
 use Rattle.cells.specs.Packed.{entry}
 use Rattle.step.specs.Codes.{Code, openMark, Unsettled, Settled, Called, Walkable, resultOf}
 use Rattle.cells.specs.declared.Cell.{Cell}
@@ -24,7 +25,8 @@ use Rattle.step.specs.declared.Walk.the-variants as walk
 -- The table once y is known to have the result r: as it was, or with the cell of a leaf settled in it.
 pub data LookedUp (rule : ℕ → Rule) (s T : List ℕ) (y : Pair) (r : Result) : List ℕ → Type 0 where
   settled-before : Settled (length s) (held (length s) T y) r → LookedUp rule s T y r T
-  leaf-settled : {c : ℕ} → Unsettled (held (length s) T y) → act rule s y ≡ gives r → Settled (length s) c r → LookedUp rule s T y r (stored T (cell (length s) y) c)
+  leaf-settled : {c m : ℕ} → Unsettled (held (length s) T y) → act rule s y ≡ gives r → Settled (length s) c r → m ≡ leafReachOf rule y
+      → LookedUp rule s T y r (stored T (cell (length s) y) c m)
 
 -- ---- One step of the walk.
 
@@ -62,7 +64,10 @@ pub record Settles (rule : ℕ → Rule) (s T W T′ W′ : List ℕ) (x : State
   pub code-is : Settled (length s) c r
   pub T₁ : List ℕ
   pub looked-up : LookedUp rule s T (calledOf x) r T₁
-  pub table-is : T′ ≡ stored T₁ (cell (length s) (topOf x)) c
+  pub m : ℕ
+  pub reach-is : (B C D : ℕ) → rule (x .variable) ≡ call B C D
+      → m ≡ max (reach (length s) T₁ (B at x .position)) (reach (length s) T₁ (calledOf x))
+  pub table-is : T′ ≡ stored T₁ (cell (length s) (topOf x)) c m
   pub work-same : W′ ≡ W
 
 -- Its caller, the latest in the work slice, is next.
@@ -76,7 +81,7 @@ pub record Returns (W : List ℕ) (x y : State) : Type 0 where
 -- Back to the caller, or the end where there is none.
 abbrev pub GoesBack : List ℕ → State → Cell → Step → Type 0
 GoesBack W x c (step.On y) = Returns W x y
-GoesBack W x c (step.Ended (walk.Settled d)) = (d ≡ c) × (x .depth ≡ 0)
+GoesBack W x c (step.Ended (walk.Settled d)) = (d .0 ≡ c .0) × (x .depth ≡ 0)
 GoesBack W x c (step.Ended (walk.Loop A p B q d)) = ⊥
 GoesBack W x c (step.Ended (walk.Missing A p d)) = ⊥
 GoesBack W x c (step.Ended (walk.End A p d)) = ⊥
@@ -87,26 +92,45 @@ ToSecond rule x c y =
     ((B C D : ℕ) → rule (x .variable) ≡ call B C D → calledOf y ≡ second C D (x .position) (resultOf (c .0))) × (topOf y ≡ topOf x)
     × (y .second ≡ true) × (y .depth ≡ x .depth)
 
--- What going on with a result asks,
-pub record ResumeReady (n : ℕ) (T W : List ℕ) (x : State) (c : ℕ) : Type 0 where
+-- What settling the latest open pair asks: it calls, and has a cell, and so has the pair that it calls first.
+pub record SettleReady (rule : ℕ → Rule) (n : ℕ) (T W : List ℕ) (x : State) : Type 0 where
   pub low : 1 ≤ x .variable
   pub high : x .variable ≤ 256
   pub short : n ≤ 4096
   pub position : x .position ≤ n
-  pub top-cell : cell n (topOf x) < length T
+  pub top-cell : HasCell T (cell n (topOf x))
+  pub B : ℕ
+  pub C : ℕ
+  pub D : ℕ
+  pub rule-is : rule (x .variable) ≡ call B C D
+  pub first-low : 1 ≤ B
+  pub first-high : B ≤ 256
+  pub first-cell : HasCell T (cell n (B at x .position))
   pub deep : x .depth ≤ length W
+
+-- What going on with a result asks,
+pub record ResumeReady (rule : ℕ → Rule) (n : ℕ) (T W : List ℕ) (x : State) (c : ℕ) : Type 0 where
+  pub settle : SettleReady rule n T W x
   pub code-is : Code c
+
+-- The reach of the latest open pair, where its second call has the cell c: the greater of its two called pairs'.
+abbrev pub Joins : (ℕ → Rule) → ℕ → List ℕ → State → Cell → ℕ → Type 0
+Joins rule n T x c m = (B C D : ℕ) → rule (x .variable) ≡ call B C D → m ≡ max (reach n T (B at x .position)) (c .1)
+
+-- The latest open pair is settled with it.
+abbrev pub SettlesTop : (ℕ → Rule) → ℕ → List ℕ → List ℕ → State → Cell → Type 0
+SettlesTop rule n T T′ x c = (m : ℕ) × (T′ ≡ stored T (cell n (topOf x)) (c .0) m) × Joins rule n T x c m
 
 -- and what it does.
 abbrev pub Resumes : (ℕ → Rule) → ℕ → List ℕ → List ℕ → List ℕ → State → Cell → Step → Type 0
 Resumes rule n T W T′ x c r =
-    ((x .second ≡ true) × (T′ ≡ stored T (cell n (topOf x)) (c .0)) × GoesBack W x c r)
+    ((x .second ≡ true) × SettlesTop rule n T T′ x c × GoesBack W x c r)
     ⊎ ((x .second ≡ false) × (T′ ≡ T) × ((y : State) × (r ≡ step.On y) × ToSecond rule x c y))
 
 -- The called pair is opened, and its caller noted.
 pub record Opens (s T W T′ W′ : List ℕ) (x : State) : Type 0 where
   pub new : Unsettled (held (length s) T (calledOf x))
-  pub table-is : T′ ≡ stored T (cell (length s) (calledOf x)) openMark
+  pub table-is : T′ ≡ stored T (cell (length s) (calledOf x)) openMark 0
   pub work-is : W′ ≡ set W (x .depth) (entry (x .second) (topOf x))
 
 -- It calls in turn.

@@ -4,18 +4,20 @@ ghost use Prim.Native.Nat.{_/_, _%_, _≤_, _<_};
 ghost use lib.Dec.{eqb};
 ghost use lib.ListN.{length, set};
 ghost use Rattle.grammar.specs.Words.{ruleIn};
-ghost use Rattle.schema.specs.Cells.{stored};
+ghost use Rattle.schema.specs.Cells.{stored, HasCell};
 ghost use Rattle.schema.specs.Derivation.{_at_};
 ghost use Rattle.schema.specs.Table.{cell, held};
 ghost use Rattle.cells.specs.Packed.{entry};
 ghost use Rattle.step.specs.Codes.{openMark, Unsettled, Code, fresh};
-ghost use Rattle.step.specs.Step.{topOf, calledOf, StepReady, ToSecond, GoesBack, ResumeReady, Resumes, Steps};
+ghost use Rattle.step.specs.Step.{topOf, calledOf, StepReady, ToSecond, GoesBack, SettleReady, SettlesTop, ResumeReady, Resumes, Steps};
 use cells::Caller;
 use cells::Cell;
 use cells::cell_number;
 use grammar::sheet::Rules;
 use rules::Act;
 use rules::act_at;
+use rules::first_of;
+use rules::leaf_reach;
 use rules::second_of;
 
 // Where the walk stands: the latest open pair; the pair that it calls, a variable and its position, the target; whether that is its second call;
@@ -88,8 +90,8 @@ fn to_second(rules: &Rules, x: State, first: Cell) -> State
 
 // Opens the called pair, and notes its caller.
 fn open_called(n: usize, table: &mut [u32], work: &mut [u32], x: State)
-    requires { ⌜ (1 ≤ x .called) × (x .called ≤ 256) × (n ≤ 4096) × (x .target ≤ n) × (cell n (calledOf x) < length (now table)) × (x .variable ≤ 256) × (x .position ≤ 4096) × (x .depth < length (now work)) ⌝ }
-    ensures opens { λ _. ⌜ now (table .exit) ≡ stored (now (table .entry)) (cell n (calledOf x)) openMark ⌝ }
+    requires { ⌜ (1 ≤ x .called) × (x .called ≤ 256) × (n ≤ 4096) × (x .target ≤ n) × HasCell (now table) (cell n (calledOf x)) × (x .variable ≤ 256) × (x .position ≤ 4096) × (x .depth < length (now work)) ⌝ }
+    ensures opens { λ _. ⌜ now (table .exit) ≡ stored (now (table .entry)) (cell n (calledOf x)) openMark 0 ⌝ }
     ensures notes { λ _. ⌜ now (work .exit) ≡ set (now (work .entry)) (x .depth) (entry (x .second) (topOf x)) ⌝ }
 {
     Cell::OPEN.store(table, cell_number(n, x.called, x.target));
@@ -102,12 +104,24 @@ fn open_called(n: usize, table: &mut [u32], work: &mut [u32], x: State)
     work[depth] = caller.pack();
 }
 
-// Settles the latest open pair, and goes back to its caller.
-fn settle_top(n: usize, table: &mut [u32], work: &[u32], x: State, cell: Cell) -> Step
-    requires { ⌜ (1 ≤ x .variable) × (x .variable ≤ 256) × (n ≤ 4096) × (x .position ≤ n) × (Rattle.schema.specs.Table.cell n (topOf x) < length (now table)) × (x .depth ≤ length (now work)) ⌝ }
-    ensures stores { λ _. ⌜ now (table .exit) ≡ stored (now (table .entry)) (Rattle.schema.specs.Table.cell n (topOf x)) (cell .0) ⌝ }
-    ensures returns { λ r. ⌜ GoesBack (now (work .entry)) x cell r ⌝ }
+// Settles the latest open pair, and goes back to its caller. It looked as far as the further one of its two called pairs.
+fn settle_top(
+    rules: &Rules,
+    n: usize,
+    table: &mut [u32],
+    work: &[u32],
+    x: State,
+    second: Cell,
+) -> Step
+    requires { ⌜ SettleReady (ruleIn (now rules)) n (now table) (now work) x ⌝ }
+    ensures stores { λ _. ⌜ SettlesTop (ruleIn (now (rules .entry))) n (now (table .entry)) (now (table .exit)) x second ⌝ }
+    ensures returns { λ r. ⌜ GoesBack (now (work .entry)) x second r ⌝ }
 {
+    let first = Cell::load(
+        table,
+        cell_number(n, first_of(rules, x.variable), x.position),
+    );
+    let cell = second.reaching(first.1);
     cell.store(table, cell_number(n, x.variable, x.position));
     if x.depth == 0 {
         return Step::Ended(Walk::Settled(cell));
@@ -118,11 +132,11 @@ fn settle_top(n: usize, table: &mut [u32], work: &[u32], x: State, cell: Cell) -
 
 // Goes on with the result of the called pair: to the second call, or back to the caller with the latest open pair settled.
 fn resume(rules: &Rules, n: usize, table: &mut [u32], work: &[u32], x: State, cell: Cell) -> Step
-    requires { ⌜ ResumeReady n (now table) (now work) x (cell .0) ⌝ }
+    requires { ⌜ ResumeReady (ruleIn (now rules)) n (now table) (now work) x (cell .0) ⌝ }
     ensures { λ r. ⌜ Resumes (ruleIn (now (rules .entry))) n (now (table .entry)) (now (work .entry)) (now (table .exit)) x cell r ⌝ }
 {
     if x.second {
-        return settle_top(n, table, work, x, cell);
+        return settle_top(rules, n, table, work, x, cell);
     }
     Step::On(to_second(rules, x, cell))
 }
@@ -136,8 +150,8 @@ fn settle_leaf(
     x: State,
     leaf: Cell,
 ) -> Step
-    requires { ⌜ ResumeReady n (now table) (now work) x (leaf .0) × (1 ≤ x .called) × (x .called ≤ 256) × (x .target ≤ n) × (cell n (calledOf x) < length (now table)) ⌝ }
-    ensures { λ r. ⌜ Resumes (ruleIn (now (rules .entry))) n (stored (now (table .entry)) (cell n (calledOf x)) (leaf .0)) (now (work .entry)) (now (table .exit)) x leaf r ⌝ }
+    requires { ⌜ ResumeReady (ruleIn (now rules)) n (now table) (now work) x (leaf .0) × (1 ≤ x .called) × (x .called ≤ 256) × (x .target ≤ n) × HasCell (now table) (cell n (calledOf x)) ⌝ }
+    ensures { λ r. ⌜ Resumes (ruleIn (now (rules .entry))) n (stored (now (table .entry)) (cell n (calledOf x)) (leaf .0) (leaf .1)) (now (work .entry)) (now (table .exit)) x leaf r ⌝ }
 {
     leaf.store(table, cell_number(n, x.called, x.target));
     resume(rules, n, table, work, x, leaf)
@@ -157,8 +171,11 @@ fn advance_unsettled(
 {
     let n = input.len();
     match act_at(rules, input, x.called, x.target) {
-        Act::Success(end) => settle_leaf(rules, n, table, work, x, Cell::success(end)),
-        Act::Failure => settle_leaf(rules, n, table, work, x, Cell::FAILURE),
+        Act::Success(end) => settle_leaf(rules, n, table, work, x, Cell::success(end, end)),
+        Act::Failure => {
+            let reach = leaf_reach(rules, x.called, x.target);
+            settle_leaf(rules, n, table, work, x, Cell::failure(reach))
+        }
         Act::Calls(b, _, _) => {
             open_called(n, table, work, x);
             Step::On(State {
@@ -196,7 +213,7 @@ pub fn advance(
     let n = input.len();
     let found = Cell::load(table, cell_number(n, x.called, x.target));
     if found.0 == Cell::FAILURE.0 {
-        return resume(rules, n, table, work, x, Cell::FAILURE);
+        return resume(rules, n, table, work, x, found);
     }
     if found.0 < Cell::SUCCESS.0 {
         return advance_unsettled(rules, input, variables, table, work, x);
@@ -210,7 +227,7 @@ pub fn advance(
 
 // How many cells the next number of a pair's cell decides: one where it is blank.
 pub fn newly(n: usize, table: &[u32], variable: u32, position: u32) -> u32
-    requires { ⌜ (1 ≤ variable) × (variable ≤ 256) × (n ≤ 4096) × (position ≤ n) × (cell n (variable at position) < length (now table)) ⌝ }
+    requires { ⌜ (1 ≤ variable) × (variable ≤ 256) × (n ≤ 4096) × (position ≤ n) × HasCell (now table) (cell n (variable at position)) ⌝ }
     ensures { λ r. ⌜ r ≡ fresh (held n (now (table .entry)) (variable at position)) ⌝ }
 {
     if Cell::load(table, cell_number(n, variable, position)).0 == Cell::BLANK.0 {

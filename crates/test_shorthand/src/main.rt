@@ -54,7 +54,7 @@ fn untouched(out: &[u8], from: usize) -> u32 {
 
 // The outcome of a variable at a position.
 fn print_outcome(sheet: &[u8], input: &[u8], variable: u32, position: u32) {
-    let mut table = [0u32; 4096];
+    let mut table = [0u32; 8192];
     let mut work = [0u32; 4096];
     let answer = memo::question(sheet, input, variable, position, &mut table, &mut work);
     match answer {

@@ -2,7 +2,7 @@
 use mathlib.Core.Path.{_≡_, sym, ap, _∙_, subst}
 use mathlib.Core.Bool.{Bool, true, false, cond, not, _||_}
 use mathlib.Core.List.{List}
-use Prim.Native.Nat.{ℕ, _≤_}
+use Prim.Native.Nat.{ℕ, _*_, _≤_}
 use lib.Dec.{ltb}
 use lib.ListN.{length}
 use Rattle.grammar.specs.Refusal.{Checked, refused, accepted}
@@ -45,7 +45,7 @@ module _ {s before after : List ℕ} {r : Sheet} (promise : SheetPromise s befor
     few = few-variables s (read .grammar) (read .accepts) (read .variables-are) rules-are
 
     module _ {a b c : Bool} (long : ltb 4096 (length input) ≡ a) (closed : b ≡ closedBy (l .endmarker) input)
-        (small : c ≡ (ltb (length table) (cells (l .variables) (length input)) || ltb (length work) (cells (l .variables) (length input)))) where
+        (small : c ≡ (ltb (length table) (2 * cells (l .variables) (length input)) || ltb (length work) (cells (l .variables) (length input)))) where
       follows : handed s (verdictOf input (length table) (length work))
           ≡ cond a (refused 6 0) (cond (not b) (refused 7 0) (cond c (refused 10 0) (accepted (read .grammar))))
       follows = verdict-by s input (read .grammar) (length table) (length work) a b c (read .accepts) long (rw (read .endmarker-is) (sym closed)) (rw (read .variables-are) (sym small))

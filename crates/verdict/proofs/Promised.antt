@@ -2,15 +2,14 @@
 use mathlib.Core.List.{List}
 use mathlib.Core.Logic.{_↔_}
 use mathlib.Core.Path.{_≡_, refl, sym, ap, _∙_, subst}
-use Prim.Native.Nat.{ℕ, _≤_}
+use Prim.Native.Nat.{ℕ}
 use lib.ListN.{length}
 use Rattle.grammar.specs.Refusal.{Checked, refused, accepted}
 use Rattle.grammar.specs.Sheet.{Grammar}
 use Rattle.schema.specs.Derivation.{_at_, Outcome, Has}
 use Rattle.schema.specs.Handed.{Handed, handed, verdictOf}
 use Rattle.schema.specs.Reached.{Reached, Number}
-use Rattle.schema.specs.Table.{cells}
-use Rattle.schema.proofs.Handed.{handed-sheet, handed-slices}
+use Rattle.schema.proofs.Handed.{handed-sheet}
 use Rattle.schema.proofs.SheetClosed.{start-within}
 use Rattle.finish.specs.Reply.{Reply, outcomeOf, countOf}
 use Rattle.memo.proofs.Result.{count-is, outcome-is, one-answer, one-table}
@@ -22,9 +21,6 @@ module _ (s input table work : List ℕ) where
   asked = verdictOf input (length table) (length work)
 
   module _ (g : Grammar) (accepts : handed s (verdictOf input (length table) (length work)) ≡ accepted g) where
-    table-room : cells (g .variables) (length input) ≤ length table
-    table-room = handed-slices s asked g accepts (length table) (length work) refl .0
-
     -- The numbers of a verdict are those of the outcome that the start variable at 0 has, with the number of reached pairs.
     pub verdict-reply : (table′ work′ : List ℕ) (r : Judgement) → VerdictPromise s input table table′ work work′ r
         → (a : Reply) × (numbers r ≡ judged (length input) (accepted a)) × Number (Reached (g .rule) input (g .start at 0)) (countOf a)
@@ -34,8 +30,8 @@ module _ (s input table work : List ℕ) where
         let a = j .2 in (
           a .0,
           j .1 ∙ ap (judged (length input)) (a .1),
-          count-is s asked g accepts (g .start at 0) (start-within s g (handed-sheet s asked g accepts)) table-room (a .2),
-          outcome-is s asked g accepts (g .start at 0) (start-within s g (handed-sheet s asked g accepts)) table-room (a .2),
+          count-is s asked g accepts (g .start at 0) (start-within s g (handed-sheet s asked g accepts)) (a .2),
+          outcome-is s asked g accepts (g .start at 0) (start-within s g (handed-sheet s asked g accepts)) (a .2),
         )
 
   -- One verdict only: the same numbers and the same table.
@@ -49,7 +45,7 @@ module _ (s input table work : List ℕ) where
       by-sheet (accepted g) e m k =
           let a = m .2 in
           let b = k .2 in
-          let same = one-answer s asked g e (g .start at 0) (start-within s g (handed-sheet s asked g e)) (table-room g e) (a .2) (b .2) in (
+          let same = one-answer s asked g e (g .start at 0) (start-within s g (handed-sheet s asked g e)) (a .2) (b .2) in (
             m .1 ∙ ap (judged (length input)) (a .1 ∙ ap accepted same ∙ sym (b .1)) ∙ sym (k .1),
-            one-table s asked g e (g .start at 0) (start-within s g (handed-sheet s asked g e)) (table-room g e) (a .2) (b .2),
+            one-table s asked g e (g .start at 0) (start-within s g (handed-sheet s asked g e)) (a .2) (b .2),
           )

@@ -72,8 +72,8 @@ module _ (rule : ℕ → Rule) (s : List ℕ) (v : ℕ) (closed : Closed v rule)
         link-second (free-kind (A at p) w f ∙ ap kindOf e) (settled-at short T (B at p) (cell-first A p B C D w e) m) (sym (cell-second A p B C D w e t))
 
     -- A result that is given fits the table.
-    pub given-fits : {x : Pair} {r : Result} {root : ℕ} {rest : List ℕ} → Bounded (heldCells rule s (view mark O)) (cells v (length s)) → PairWithin v (length s) x
-        → Inv (heldCells rule s (view mark O)) (cells v (length s)) (view mark O) root (view mark T) (cell (length s) x ∷ rest) → Given rule s T x r
+    pub given-fits : {x : Pair} {r : Result} {far root : ℕ} {rest : List ℕ} → Bounded (heldCells rule s (view mark O)) (cells v (length s)) → PairWithin v (length s) x
+        → Inv (heldCells rule s (view mark O)) (cells v (length s)) (view mark O) root (view mark T) (cell (length s) x ∷ rest) → Given rule s T x r far
         → Fits (heldCells rule s (view mark O)) (view mark T) (cell (length s) x) r
     unfolding holding
     given-fits {x} bounded w inv (by-leaf e) = leaf-fits (heldCells rule s (view mark O)) (free-kind x w (top-free O T (cell (length s) x) inv) ∙ ap kindOf e)

@@ -2,12 +2,12 @@
 use mathlib.Core.Path.{_≡_, refl, ap, _∙_}
 use mathlib.Core.List.{List, _∷_}
 use mathlib.Core.Logic.{inl, inr, _≢_}
-use Prim.Native.Nat.{ℕ, _+_, _≤_, _<_}
+use Prim.Native.Nat.{ℕ, _+_, _*_, _≤_, _<_}
 use native.Mathlib.Omega.{arith}
-use lib.ListN.{length, take}
+use lib.ListN.{length}
 use Rattle.calls.proofs.Table.{opened}
 use Rattle.grammar.specs.Rule.{Rule}
-use Rattle.schema.specs.Cells.{heldAt, stored}
+use Rattle.schema.specs.Cells.{heldAt, stored, HasCell}
 use Rattle.schema.specs.Closed.{Closed}
 use Rattle.schema.specs.Derivation.{Pair, _at_, Result}
 use Rattle.schema.specs.Table.{cell, cells, decided, held}
@@ -30,7 +30,7 @@ use Rattle.step.proofs.Within.{called-within}
 use Rattle.walk.proofs.Through.{Through}
 
 module _ (rule : ℕ → Rule) (s : List ℕ) (v : ℕ) (closed : Closed v rule) (few : v ≤ 256) (short : length s ≤ 4096) {x : Pair} {O U T W : List ℕ} {y : State}
-    (g : Standing rule s v x O U T W y) (room : cells v (length s) ≤ length O) where
+    (g : Standing rule s v x O U T W y) (room : 2 * cells v (length s) ≤ length O) where
   abbrev N : ℕ
   N = cells v (length s)
 
@@ -40,17 +40,17 @@ module _ (rule : ℕ → Rule) (s : List ℕ) (v : ℕ) (closed : Closed v rule)
   called-below : cell (length s) (calledOf y) < N
   called-below = cell-below v (length s) (calledOf y) (called-within rule s v closed (g .within) (g .called))
 
-  called-in : cell (length s) (calledOf y) < length T
+  called-in : HasCell T (cell (length s) (calledOf y))
   called-in = let l = called-below in let e = g .through .size in omega arith
 
   -- Looking up,
   looked-counts : {r : Result} {T′ : List ℕ} → LookedUp rule s T (calledOf y) r T′ → Counts N T T′ new
   looked-counts {r} (settled-before m) = let e = fresh-not (held (length s) T (calledOf y)) (settled-full r m) in omega arith
-  looked-counts {r} (leaf-settled {c} u e m) = decided-stored T N (cell (length s) (calledOf y)) c called-below called-in (settled-full r m)
+  looked-counts {r} (leaf-settled {c} {m = far} u e m j) = decided-stored T N (cell (length s) (calledOf y)) c far called-below called-in (settled-full r m)
 
   -- opening,
   opens-counts : {T′ W′ : List ℕ} → Opens s T W T′ W′ y → Counts N T T′ new
-  opens-counts o = ap (λ (M : List ℕ). decided (take N M)) (o .table-is) ∙ decided-stored T N (cell (length s) (calledOf y)) openMark called-below called-in (λ z. omega arith)
+  opens-counts o = ap (λ (M : List ℕ). decided N M) (o .table-is) ∙ decided-stored T N (cell (length s) (calledOf y)) openMark 0 called-below called-in (λ z. omega arith)
 
   -- settling the latest open pair,
   top-full : {T₁ : List ℕ} → Through rule s v x O T₁ (cell (length s) (topOf y) ∷ g .stack) → held (length s) T₁ (topOf y) ≢ 0
@@ -66,9 +66,9 @@ module _ (rule : ℕ → Rule) (s : List ℕ) (v : ℕ) (closed : Closed v rule)
       let l = cell-below v (length s) (topOf y) (g .within) in
       let z = t .size in
       let a = looked-counts (h .looked-up) in
-      let b = decided-stored (h .T₁) N i c l (omega arith) (settled-full (h .r) (h .code-is)) in
+      let b = decided-stored (h .T₁) N i c (h .m) l (omega arith) (settled-full (h .r) (h .code-is)) in
       let f = fresh-not (heldAt (h .T₁) i) (top-full t) in
-      let e = ap (λ (M : List ℕ). decided (take N M)) (h .table-is) in
+      let e = ap (λ (M : List ℕ). decided N M) (h .table-is) in
       omega arith
 
   -- and so every step.
@@ -81,7 +81,7 @@ module _ (rule : ℕ → Rule) (s : List ℕ) (v : ℕ) (closed : Closed v rule)
   end-counts T′ W′ (walk.Settled c) h = settles-counts (h .0)
   end-counts T′ W′ (walk.Loop A p B q d) h =
       let e = fresh-not (held (length s) T (calledOf y)) (λ z. let o = h .opened in omega arith) in
-      let t = ap (λ (M : List ℕ). decided (take N M)) (h .table-same) in
+      let t = ap (λ (M : List ℕ). decided N M) (h .table-same) in
       omega arith
   end-counts T′ W′ (walk.Missing A p d) h = opens-counts (h .0)
   end-counts T′ W′ (walk.End A p d) h = opens-counts (h .0)
@@ -117,11 +117,11 @@ module _ {rule : ℕ → Rule} {s : List ℕ} {v A p : ℕ} {T₀ W₀ : List �
         omega arith
 
   -- A leaf that is asked is open, and so is not new.
-  pub asked-counts : (c : ℕ) → c ≢ 0 → Counts (cells v (length s)) T₀ (stored T₀ (cell (length s) (A at p)) c) 0
-  asked-counts c d =
+  pub asked-counts : (c far : ℕ) → c ≢ 0 → Counts (cells v (length s)) T₀ (stored T₀ (cell (length s) (A at p)) c far) 0
+  asked-counts c far d =
       let l = cell-below v (length s) (A at p) (r .within) in
       let m = r .walkable .room in
       let o = r .opened in
-      let a = decided-stored T₀ (cells v (length s)) (cell (length s) (A at p)) c l (omega arith) d in
+      let a = decided-stored T₀ (cells v (length s)) (cell (length s) (A at p)) c far l (omega arith) d in
       let b = fresh-not (held (length s) T₀ (A at p)) (λ z. omega arith) in
       omega arith

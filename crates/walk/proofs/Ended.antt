@@ -3,7 +3,7 @@ use mathlib.Core.Path.{_≡_, refl, sym, ap, _∙_, subst}
 use mathlib.Core.Bool.{Bool}
 use mathlib.Core.List.{List, [], _∷_, map, List·Memᴰ, Memᴰ·map, Memᴰ·of-map}
 use mathlib.Core.Logic.{_⊎_, inl, inr, _≢_}
-use Prim.Native.Nat.{ℕ, _-_, _≤_, _<_}
+use Prim.Native.Nat.{ℕ, _-_, _*_, _≤_, _<_}
 use native.Mathlib.Omega.{arith}
 use lib.ListN.{length}
 use Rattle.calls.proofs.Ends.{End, end-value, end-loop, end-halt}
@@ -15,12 +15,12 @@ use Rattle.calls.proofs.Reach.{Reach}
 use Rattle.calls.proofs.System.{Answer, value, halts, loops}
 use Rattle.calls.proofs.Table.{Mark, blank, opened, settled}
 use Rattle.grammar.specs.Rule.{Rule}
-use Rattle.schema.specs.Cells.{heldAt, stored}
+use Rattle.schema.specs.Cells.{heldAt, reachAt, stored}
 use Rattle.schema.proofs.Cells.{view}
 use Rattle.schema.specs.Closed.{Closed}
 use Rattle.schema.specs.Derivation.{Pair, _at_, Result, Stop, stops, act, result, stopped, loop}
 use Rattle.schema.specs.Reached.{Reached}
-use Rattle.schema.specs.Table.{Within, cell, cells, held}
+use Rattle.schema.specs.Table.{Within, cell, cells, held, reach}
 use Rattle.schema.proofs.Answer.{gtsCells, gts-bounded, MarkHas, reached-cell, cell-reached, end-has, end-named, end-full, end-marks}
 use Rattle.schema.proofs.Held.{heldCells}
 use Rattle.schema.proofs.Cell.{pairOf, PairWithin, cell-below, cell-pair, pair-cell, pair-within}
@@ -28,18 +28,18 @@ use Rattle.schema.proofs.System as schema
 use Rattle.schema.proofs.System.{kindOf}
 use Rattle.schema.proofs.Waiting as waiting
 use Rattle.step.specs.Codes.{openMark, Settled, Called, Given, resultOf}
-use Rattle.walk.specs.Walk.{HeldAt, TableMeans, TableEnds}
+use Rattle.walk.specs.Walk.{Reaching, HeldAt, TableMeans, TableEnds}
 use Rattle.step.proofs.Looking.{result-is}
 use Rattle.walk.proofs.Bridge.{top-free, free-kind, called-link}
 use Rattle.walk.proofs.RightTable.{right-marks}
 use Rattle.walk.proofs.Marks.{mark, mark-open, mark-blank, stands}
 use Rattle.step.proofs.Within.{called-within}
-use Rattle.walk.proofs.Through.{Through, start-bounded, settle-through, settle-there}
+use Rattle.walk.proofs.Through.{Through, reaching-pair, start-bounded, settle-through, settle-there}
 
 module _ (rule : ℕ → Rule) (s : List ℕ) (v : ℕ) (closed : Closed v rule) (short : length s ≤ 4096) (x : Pair) (w : PairWithin v (length s) x)
     (O T : List ℕ) (l : List ℕ) where
   module _ (rest : Through rule s v x O T l) (a : Answer Result Stop) (z : ℕ) (end : End (gtsCells rule s) (cells v (length s)) (view mark O) (cell (length s) x) (view mark T) a z)
-      (kept : Kept (gtsCells rule s) (cells v (length s)) (view mark O)) where
+      (kept : Kept (gtsCells rule s) (cells v (length s)) (view mark O)) (reaching : Reaching rule s v O) where
     held-at : (y : Pair) → Reached rule s x y → HeldAt rule s T (schema.outcomeOf a) y
     held-at y r = go (mark (held (length s) T y)) refl
       where
@@ -58,13 +58,17 @@ module _ (rule : ℕ → Rule) (s : List ℕ) (v : ℕ) (closed : Closed v rule)
         go : (m : Mark Result) → mark (held n T y) ≡ m → HeldAt rule s T (schema.outcomeOf a) y
         go blank e = absurd (end-full rule s v closed x w end r e)
         go opened e = inr (has opened e, stands n (held n T y) opened (rest .fits (cell n y) below) e)
-        go (settled t) e = inl (t, has (settled t) e, stands n (held n T y) (settled t) (rest .fits (cell n y) below) e)
+        go (settled t) e =
+            let m = stands n (held n T y) (settled t) (rest .fits (cell n y) below) e in
+            inl (t, has (settled t) e, m, reaching-pair rule s v T (rest .reaching reaching) y t within m)
 
-    others : (A p : ℕ) → Within v (length s) A p → held (length s) T (A at p) ≢ held (length s) O (A at p) → Reached rule s x (A at p)
-    others A p i d = go (rest .changed (cell (length s) (A at p)) (cell-below v (length s) (A at p) i))
+    -- A cell that changed is that of a reached pair.
+    changed-reached : (A p : ℕ) → Within v (length s) A p
+        → ((held (length s) T (A at p) ≡ held (length s) O (A at p)) × (reach (length s) T (A at p) ≡ reach (length s) O (A at p)) → ⊥) → Reached rule s x (A at p)
+    changed-reached A p i d = go (rest .changed (cell (length s) (A at p)) (cell-below v (length s) (A at p) i))
       where
-        go : (held (length s) T (A at p) ≡ held (length s) O (A at p)) ⊎ Reach (heldCells rule s (view mark O)) (cell (length s) x) (cell (length s) (A at p))
-            → Reached rule s x (A at p)
+        go : ((held (length s) T (A at p) ≡ held (length s) O (A at p)) × (reach (length s) T (A at p) ≡ reach (length s) O (A at p)))
+            ⊎ Reach (heldCells rule s (view mark O)) (cell (length s) x) (cell (length s) (A at p)) → Reached rule s x (A at p)
         go (inl e) = absurd (d e)
         go (inr r) =
             subst (Reached rule s x) (pair-cell v (length s) (A at p) i)
@@ -72,7 +76,7 @@ module _ (rule : ℕ → Rule) (s : List ℕ) (v : ℕ) (closed : Closed v rule)
             (reach-from (gtsCells rule s) (view mark O) (cells v (length s)) (gts-bounded rule s v closed) kept (cell-below v (length s) x w) r .1))
 
     table-means : (named : Pair) → waiting.namedOf a (pairOf (length s) z) ≡ named → TableMeans rule s v x O T (schema.outcomeOf a) named
-    table-means named f = record { has = end-has rule s v closed x w end; names = rw (← f) (end-named rule s v closed x w end); reached = held-at; others = others }
+    table-means named f = record { has = end-has rule s v closed x w end; names = rw (← f) (end-named rule s v closed x w end); reached = held-at; others = λ A p i d. changed-reached A p i (λ e. d (e .0)); others-reach = λ A p i d. changed-reached A p i (λ e. d (e .1)) }
 
   module _ (rest : Through rule s v x O T l) (a : Answer Result Stop) (z : ℕ)
       (end : End (heldCells rule s (view mark O)) (cells v (length s)) (view mark O) (cell (length s) x) (view mark T) a z) where
@@ -100,7 +104,7 @@ module _ (rule : ℕ → Rule) (s : List ℕ) (v : ℕ) (closed : Closed v rule)
       means = λ right.
           let k = right-marks rule s v closed short O (rest .fits-before) right in
           table-means rest a z
-          (end-from (gtsCells rule s) (view mark O) (cells v (length s)) (gts-bounded rule s v closed) k (cell-below v (length s) x w) end) k named f;
+          (end-from (gtsCells rule s) (view mark O) (cells v (length s)) (gts-bounded rule s v closed) k (cell-below v (length s) x w) end) k (right .reaching) named f;
       asked = λ z. rest .inv .root-full (ap mark z ∙ mark-blank 0 (record { no-failure = λ e. omega arith; no-success = omega arith }));
       on-trail = on-trail;
       trail-open = trail-open;
@@ -141,14 +145,14 @@ module _ (rule : ℕ → Rule) (s : List ℕ) (v : ℕ) (closed : Closed v rule)
       (a at p) (pair-cell v (length s) (a at p) within)
 
   -- The asked pair has its result.
-  pub settle-ends : (room : cells v (length s) ≤ length O) (c : ℕ) (r : Result) → Settled (length s) c r → Given rule s T (a at p) r
-      → cell (length s) (a at p) ≡ cell (length s) x → TableEnds rule s v x O (stored T (cell (length s) (a at p)) c) (result (resultOf c)) (0 at 0) []
-  settle-ends room c r m h e =
+  pub settle-ends : (room : 2 * cells v (length s) ≤ length O) (c : ℕ) (r : Result) → Settled (length s) c r → (far : ℕ) → Given rule s T (a at p) r far
+      → cell (length s) (a at p) ≡ cell (length s) x → TableEnds rule s v x O (stored T (cell (length s) (a at p)) c far) (result (resultOf c)) (0 at 0) []
+  settle-ends room c r m far h e =
       let top = cell (length s) (a at p) in
       let z = at-root (heldCells rule s (view mark O)) e (g .inv .trail) in
-      let t = subst (Through rule s v x O (stored T top c)) z (settle-through rule s v closed few short within g room c r m h) in
-      let f = settle-there rule s v closed few short within g room c r m h in
-      subst (λ (u : Result). TableEnds rule s v x O (stored T top c) (result u) (0 at 0) []) (sym (result-is (length s) c r m))
-      (table-ends rule s v closed short x w O (stored T top c) [] t (value r) (cell (length s) x)
+      let t = subst (Through rule s v x O (stored T top c far)) z (settle-through rule s v closed few short within g room c r m far h) in
+      let f = settle-there rule s v closed few short within g room c r m far h in
+      subst (λ (u : Result). TableEnds rule s v x O (stored T top c far) (result u) (0 at 0) []) (sym (result-is (length s) c r m))
+      (table-ends rule s v closed short x w O (stored T top c far) [] t (value r) (cell (length s) x)
       (end-value (heldCells rule s (view mark O)) (cells v (length s)) (start-bounded rule s v closed O (g .fits-before)) root-below (cell (length s) x) (t .inv)
-      (ap (view mark (stored T top c)) (sym e) ∙ f)) (0 at 0) refl)
+      (ap (view mark (stored T top c far)) (sym e) ∙ f)) (0 at 0) refl)

@@ -2,10 +2,10 @@
 use mathlib.Core.Path.{_≡_, refl, sym, ap, _∙_, subst}
 use mathlib.Core.List.{List, [], _∷_, List·Memᴰ, List·Memᴰ·not-nil}
 use mathlib.Core.Logic.{_≢_}
-use Prim.Native.Nat.{ℕ, _≤_, _<_}
+use Prim.Native.Nat.{ℕ, _*_, _≤_, _<_}
 use native.Mathlib.Decide.{ℕ-discrete}
 use native.Mathlib.Omega.{arith}
-use lib.ListN.{length, take}
+use lib.ListN.{length}
 use Rattle.grammar.specs.Rule.{Rule}
 use Rattle.schema.specs.Cells.{heldAt}
 use Rattle.schema.specs.Derivation.{Pair, _at_, Outcome}
@@ -18,18 +18,17 @@ use Rattle.step.specs.declared.Walk.{Walk}
 use Rattle.walk.proofs.Decided.{decided-same}
 
 -- Closing decides no cell anew.
-pub closes-counts : {N c : ℕ} (T T′ : List ℕ) → c ≢ 0 → N ≤ length T → Closes N c T T′ → decided (take N T′) ≡ decided (take N T)
-closes-counts {N} T T′ d room h =
-    let z = h .size in
-    decided-same T T′ N room (omega arith) (λ i l e. h .others i (λ o. omega arith) ∙ e) (λ i l f. elim (ℕ-discrete (heldAt T i) openMark) [
-      | yes o ↦ λ e. d (sym (h .opened i l o) ∙ e)
-      | no n ↦ λ e. f (sym (h .others i n) ∙ e)
+pub closes-counts : {N c : ℕ} (T T′ : List ℕ) → c ≢ 0 → Closes N c T T′ → decided N T′ ≡ decided N T
+closes-counts {N} T T′ d h =
+    decided-same T T′ N (λ i l e. h .others i (λ o. omega arith) .0 ∙ e) (λ i l f. elim (ℕ-discrete (heldAt T i) openMark) [
+      | yes o ↦ λ e. d (sym (h .opened i l o .0) ∙ e)
+      | no n ↦ λ e. f (sym (h .others i n .0) ∙ e)
     ])
 
 module _ {rule : ℕ → Rule} {s : List ℕ} {v : ℕ} {x : Pair} {O T U W : List ℕ} {r : Walk} (ends : WalkEnds rule s v x O T U W r) where
   -- What the call to close is handed.
-  pub close-ready : (B q c : ℕ) → v ≤ 256 → length s ≤ 4096 → c ≢ openMark → cells v (length s) ≤ length O → cells v (length s) ≤ length U
-      → (ps : List Pair) × (ends .opens ≡ (B at q) ∷ ps) → CloseReady (length s) v B q (depthOf r) c T W
+  pub close-ready : (B q c : ℕ) → v ≤ 256 → length s ≤ 4096 → c ≢ openMark → 2 * cells v (length s) ≤ length O → cells v (length s) ≤ length U
+      → (ps : List Pair) × (ends .opens ≡ (B at q) ∷ ps) → CloseReady (length s) v B q (depthOf r) c 0 T W
   close-ready B q c few short d room work-room t =
       let z = ends .table .size in
       let y = ends .work-size in
@@ -37,6 +36,7 @@ module _ {rule : ℕ → Rule} {s : List ℕ} {v : ℕ} {x : Pair} {O T U W : Li
         few = few;
         short = short;
         not-open = d;
+        no-reach = refl;
         room = omega arith;
         work-room = omega arith;
         deep = ends .deep;

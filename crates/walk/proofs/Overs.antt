@@ -2,17 +2,18 @@
 use mathlib.Core.List.{List, []}
 use mathlib.Core.Logic.{inl, inr, _≢_}
 use mathlib.Core.Path.{_≡_, refl, sym, ap, _∙_, subst}
-use Prim.Native.Nat.{ℕ, _+_, _-_, _≤_, _<_}
+use Prim.Native.Nat.{ℕ, _+_, _-_, _*_, _≤_, _<_}
 use native.Mathlib.Decide.{ℕ-discrete}
 use native.Mathlib.Omega.{arith}
-use lib.ListN.{length, take, drop}
+use lib.ListN.{length, drop}
 use Rattle.grammar.specs.Refusal.{Checked, accepted}
 use Rattle.grammar.specs.Rule.{Rule}
-use Rattle.schema.specs.Cells.{heldAt, stored}
-use Rattle.schema.proofs.Cells.{stored-there, stored-elsewhere, stored-later, stored-length}
+use Rattle.schema.specs.Cells.{heldAt, reachAt, stored, HasCell}
+use Rattle.schema.proofs.Cells.{stored-there, stored-reach, stored-elsewhere, reach-elsewhere, stored-later, stored-length}
 use Rattle.schema.specs.Derivation.{Pair, _at_, Result, end, second, result, Has, success, failure}
+use Rattle.schema.specs.Examined.{Examines, Reaches}
 use Rattle.schema.specs.Reached.{Reached, itself, first-of, second-of}
-use Rattle.schema.specs.Table.{Ends, Within, cell, cells, decided, held, Holds, Table, code}
+use Rattle.schema.specs.Table.{Ends, Within, cell, cells, decided, held, reach, contents, Holds, Table, code}
 use Rattle.schema.proofs.Answer.{reached-cell}
 use Rattle.schema.proofs.Cell.{PairWithin, cell-below}
 use Rattle.schema.proofs.Codes.{code-full}
@@ -30,6 +31,7 @@ use Rattle.walk.proofs.Decided.{decided-stored, decided-most}
 use Rattle.step.proofs.Looking.{result-is}
 use Rattle.walk.proofs.Finished.{close-ready, no-open, closes-counts}
 use Rattle.walk.proofs.Marks.{settled-not, settled-full, settled-closed, code-of}
+use Rattle.walk.proofs.Through.{reaching-pair}
 use Rattle.cells.proofs.Numbers.{cells-small}
 
 -- The code of a result, and of how a walk ended, is one of a cell.
@@ -44,14 +46,14 @@ ended-small n (walk.Missing A p d) s = omega arith
 ended-small n (walk.End A p d) s = omega arith
 
 -- The asked cell is in the table.
-pub over-in : {rule : ℕ → Rule} {s : List ℕ} {v A p : ℕ} {T W : List ℕ} → OverReady rule s v A p T W → cell (length s) (A at p) < length T
+pub over-in : {rule : ℕ → Rule} {s : List ℕ} {v A p : ℕ} {T W : List ℕ} → OverReady rule s v A p T W → HasCell T (cell (length s) (A at p))
 over-in {s = s} {v = v} {A = A} {p = p} r = let l = cell-below v (length s) (A at p) (r .within) in let m = r .room in omega arith
 
 -- Opening it decides it, where it is new.
 opened-counts : {rule : ℕ → Rule} {s : List ℕ} {v A p : ℕ} {T W : List ℕ} → OverReady rule s v A p T W
-    → Counts (cells v (length s)) T (stored T (cell (length s) (A at p)) openMark) (fresh (held (length s) T (A at p)))
+    → Counts (cells v (length s)) T (stored T (cell (length s) (A at p)) openMark 0) (fresh (held (length s) T (A at p)))
 opened-counts {s = s} {v = v} {A = A} {p = p} {T = T} r =
-    decided-stored T (cells v (length s)) (cell (length s) (A at p)) openMark (cell-below v (length s) (A at p) (r .within)) (over-in r) (λ z. omega arith)
+    decided-stored T (cells v (length s)) (cell (length s) (A at p)) openMark 0 (cell-below v (length s) (A at p) (r .within)) (over-in r) (λ z. omega arith)
 
 -- ---- The asked pair holds no result: it is opened and walked.
 
@@ -68,35 +70,38 @@ module _ {rule : ℕ → Rule} {s : List ℕ} {v A p : ℕ} {T W : List ℕ} (r 
   x-below : x < N
   x-below = cell-below v (length s) (A at p) (r .within)
 
-  x-in : x < length T
+  x-in : HasCell T x
   x-in = over-in r
 
   abbrev opened-table : List ℕ
-  opened-table = stored T x openMark
+  opened-table = stored T x openMark 0
 
   abbrev O : List ℕ
   O = before (length s) (A at p) opened-table
 
   -- The table before the asked pair was opened: its cell is blank, the others are as they were.
   start-asked : heldAt O x ≡ 0
-  start-asked = stored-there opened-table x 0 (let e = stored-length T x openMark in let l = x-in in omega arith)
+  start-asked = stored-there opened-table x 0 0 (let e = stored-length T x openMark 0 in let l = x-in in omega arith)
 
   start-other : (i : ℕ) → i ≢ x → heldAt O i ≡ heldAt T i
-  start-other i d = stored-elsewhere opened-table x i 0 d ∙ stored-elsewhere T x i openMark d
+  start-other i d = stored-elsewhere opened-table x i 0 0 d ∙ stored-elsewhere T x i openMark 0 d
 
-  start-later : drop N O ≡ drop N T
-  start-later = stored-later N opened-table x 0 x-below ∙ stored-later N T x openMark x-below
+  start-reach : (i : ℕ) → i ≢ x → reachAt O i ≡ reachAt T i
+  start-reach i d = reach-elsewhere opened-table x i 0 0 d ∙ reach-elsewhere T x i openMark 0 d
+
+  start-later : drop (2 * N) O ≡ drop (2 * N) T
+  start-later = stored-later N opened-table x 0 0 x-below ∙ stored-later N T x openMark 0 x-below
 
   start-size : length O ≡ length T
-  start-size = stored-length opened-table x 0 ∙ stored-length T x openMark
+  start-size = stored-length opened-table x 0 0 ∙ stored-length T x openMark 0
 
-  start-room : N ≤ length O
+  start-room : 2 * N ≤ length O
   start-room = let e = start-size in let m = r .room in omega arith
 
   opened-fits : (i : ℕ) → i < N → Fits (length s) (heldAt opened-table i)
   opened-fits i l = elim (ℕ-discrete i x) [
-    | yes e ↦ inr (ap (λ (j : ℕ). heldAt opened-table j) e ∙ stored-there T x openMark x-in)
-    | no d ↦ inl (subst (λ (c : ℕ). c ≤ 5 + length s) (sym (stored-elsewhere T x i openMark d)) (r .in-range i l))
+    | yes e ↦ inr (ap (λ (j : ℕ). heldAt opened-table j) e ∙ stored-there T x openMark 0 x-in)
+    | no d ↦ inl (subst (λ (c : ℕ). c ≤ 5 + length s) (sym (stored-elsewhere T x i openMark 0 d)) (r .in-range i l))
   ]
 
   start-open : (i : ℕ) → i < N → heldAt O i ≢ openMark
@@ -107,12 +112,12 @@ module _ {rule : ℕ → Rule} {s : List ℕ} {v A p : ℕ} {T W : List ℕ} (r 
 
   pub over-walk : WalkReady rule s v A p opened-table W
   over-walk =
-      let e = stored-length T x openMark in
+      let e = stored-length T x openMark 0 in
       let m = r .room in
       record {
         walkable = record { few = r .few; short = r .short; closed = r .closed; room = omega arith; fits = opened-fits };
         within = r .within;
-        opened = stored-there T x openMark x-in;
+        opened = stored-there T x openMark 0 x-in;
         no-open = start-open;
         work-room = r .work-room;
       }
@@ -125,6 +130,10 @@ module _ {rule : ℕ → Rule} {s : List ℕ} {v A p : ℕ} {T W : List ℕ} (r 
     whole = λ B C D E q t w m e.
         let h = k .whole B C D E q t w (was (B at q) t m) e in
         (h .0, h .1, still (C at q) (h .0) (h .2), still (second D E q (h .0)) (h .1) (h .3));
+    reaching = λ B q t w m. elim (ℕ-discrete (cell (length s) (B at q)) x) [
+      | yes e ↦ absurd (settled-full t m (ap (λ (j : ℕ). heldAt O j) e ∙ start-asked))
+      | no d ↦ subst (Examines rule s (B at q) t) (sym (start-reach (cell (length s) (B at q)) d)) (k .reaching B q t w (was (B at q) t m))
+    ];
   }
     where
       was : (y : Pair) (t : Result) → Settled (length s) (held (length s) O y) t → Settled (length s) (held (length s) T y) t
@@ -158,33 +167,53 @@ module _ {rule : ℕ → Rule} {s : List ℕ} {v A p : ℕ} {T W : List ℕ} (r 
       inside : (y : Pair) → Reached rule s (A at p) y → PairWithin v (length s) y
       inside y k = reached-cell rule s v (r .closed) (A at p) (r .within) k .0
 
+      -- An open cell is closed with the reach of an outcome that is no result.
+      closed-reach : (y : Pair) → PairWithin v (length s) y → held (length s) T₂ y ≡ openMark → Reaches rule s y (outcomeOf end) (reach (length s) T₃ y)
+      closed-reach y w o = go end h (f .closes .opened (cell (length s) y) (cell-below v (length s) y w) o .1)
+        where
+          go : (last : Walk) → WalkEnds rule s v (A at p) O T₂ W W₁ last → reach (length s) T₃ y ≡ 0 → Reaches rule s y (outcomeOf last) (reach (length s) T₃ y)
+          go (walk.Settled c) k e = absurd (no-open (k .table) (k .stops-at) (cell (length s) y) (cell-below v (length s) y w) o)
+          go (walk.Loop a q B u d) k e = e
+          go (walk.Missing B q d) k e = e
+          go (walk.End B q d) k e = e
+
       module _ (means : TableMeans rule s v (A at p) O T₂ (outcomeOf end) (namedOf end)) where
         holds-after : (y : Pair) → Reached rule s (A at p) y → Holds rule s T₃ y
         holds-after y k = go (means .reached y k)
           where
             go : HeldAt rule s T₂ (outcomeOf end) y → Holds rule s T₃ y
-            go (inl g) = (result (g .0), g .1, f .closes .others (cell (length s) y) (settled-closed (g .0) (r .short) (g .2)) ∙ g .2 .code-is)
-            go (inr g) = (outcomeOf end, g .0, f .closes .opened (cell (length s) y) (cell-below v (length s) y (inside y k)) (g .1))
+            go (inl g) =
+                let c = f .closes .others (cell (length s) y) (settled-closed (g .0) (r .short) (g .2)) in
+                (result (g .0), g .1, c .0 ∙ g .2 .code-is, subst (Examines rule s y (g .0)) (sym (c .1)) (g .3))
+            go (inr g) =
+                (outcomeOf end, g .0, f .closes .opened (cell (length s) y) (cell-below v (length s) y (inside y k)) (g .1) .0, closed-reach y (inside y k) (g .1))
+
+        -- Where the walk changed nothing of a cell, nothing is changed.
+        unchanged : (B q : ℕ) → Within v (length s) B q → held (length s) T₂ (B at q) ≡ held (length s) O (B at q)
+            → (held (length s) T₃ (B at q) ≡ held (length s) T (B at q))
+            × (reach (length s) T₂ (B at q) ≡ reach (length s) O (B at q) → reach (length s) T₃ (B at q) ≡ reach (length s) T (B at q))
+        unchanged B q w e = elim (ℕ-discrete (cell (length s) (B at q)) x) [
+          | yes z ↦ absurd (h .table .asked (ap (λ (j : ℕ). heldAt T₂ j) (sym z) ∙ e ∙ ap (λ (j : ℕ). heldAt O j) z ∙ start-asked))
+          | no z ↦
+              let i = cell (length s) (B at q) in
+              let c = f .closes .others i (λ o. start-open i (cell-below v (length s) (B at q) w) (sym e ∙ o)) in
+              (c .0 ∙ e ∙ start-other i z, λ m. c .1 ∙ m ∙ start-reach i z)
+        ]
 
         others-after : (B q : ℕ) → Within v (length s) B q → held (length s) T₃ (B at q) ≢ held (length s) T (B at q) → Reached rule s (A at p) (B at q)
-        others-after B q w d = means .others B q w changed
-          where
-            y : ℕ
-            y = cell (length s) (B at q)
+        others-after B q w d = means .others B q w (λ e. d (unchanged B q w e .0))
 
-            changed : held (length s) T₂ (B at q) ≢ held (length s) O (B at q)
-            changed e = elim (ℕ-discrete (cell (length s) (B at q)) x) [
-              | yes z ↦ h .table .asked (ap (λ (j : ℕ). heldAt T₂ j) (sym z) ∙ e ∙ ap (λ (j : ℕ). heldAt O j) z ∙ start-asked)
-              | no z ↦
-                  let c : held (length s) T₂ (B at q) ≢ openMark = λ o. start-open (cell (length s) (B at q)) (cell-below v (length s) (B at q) w) (sym e ∙ o) in
-                  d (f .closes .others (cell (length s) (B at q)) c ∙ e ∙ start-other (cell (length s) (B at q)) z)
-            ]
+        others-reach-after : (B q : ℕ) → Within v (length s) B q → reach (length s) T₃ (B at q) ≢ reach (length s) T (B at q) → Reached rule s (A at p) (B at q)
+        others-reach-after B q w d = elim (ℕ-discrete (held (length s) T₂ (B at q)) (held (length s) O (B at q))) [
+          | yes e ↦ means .others-reach B q w (λ m. d (unchanged B q w e .1 m))
+          | no e ↦ means .others B q w e
+        ]
 
-        leaves-after : Table rule s v (A at p) (held (length s) T) T T₃
-        leaves-after = record { holds = holds-after; others = others-after; later = f .closes .later ∙ h .table .later ∙ start-later; size = after-size }
+        leaves-after : Table rule s v (A at p) (contents (length s) T) T T₃
+        leaves-after = record { holds = holds-after; others = others-after; others-reach = others-reach-after; later = f .closes .later ∙ h .table .later ∙ start-later; size = after-size }
 
       -- What is answered.
-      pub over-asked : (w : ℕ) → Counts (cells v (length s)) (stored T (cell (length s) (A at p)) openMark) T₂ w → count ≡ fresh (held (length s) T (A at p)) + w
+      pub over-asked : (w : ℕ) → Counts (cells v (length s)) (stored T (cell (length s) (A at p)) openMark 0) T₂ w → count ≡ fresh (held (length s) T (A at p)) + w
           → Over rule v s (A at p) T T₃ W W₁ (told a)
       over-asked w c e = record {
         replies = reply (outcomeOf end) (namedOf end) count;
@@ -207,33 +236,31 @@ module _ {rule : ℕ → Rule} {s : List ℕ} {v A p : ℕ} {T W : List ℕ} (r 
             };
       }
         where
-          counted : decided (take N T₃) ≡ decided (take N T) + count
+          counted : decided N T₃ ≡ decided N T + count
           counted =
-              let m = start-room in
-              let z = h .table .size in
               let i = opened-counts r in
-              let j = closes-counts T₂ T₃ (code-full (outcomeOf end)) (omega arith) (f .closes) in
+              let j = closes-counts T₂ T₃ (code-full (outcomeOf end)) (f .closes) in
               omega arith
 
-          newly-decided : count ≡ decided (take N T₃) - decided (take N T)
+          newly-decided : count ≡ decided N T₃ - decided N T
           newly-decided = let k = counted in omega arith
 
 -- The same, from the table that the store leaves.
 module _ {rule : ℕ → Rule} {s : List ℕ} {v A p : ℕ} {T W : List ℕ} (r : OverReady rule s v A p T W) (free : Unsettled (held (length s) T (A at p))) {T₁ : List ℕ}
-    (e : T₁ ≡ stored T (cell (length s) (A at p)) openMark) where
+    (e : T₁ ≡ stored T (cell (length s) (A at p)) openMark 0) where
   pub over-may-walk : WalkReady rule s v A p T₁ W
   over-may-walk = rw e (over-walk r free)
 
   module _ {T₂ W₁ : List ℕ} where
     at-start : (last : Walk) → WalkEnds rule s v (A at p) (before (length s) (A at p) T₁) T₂ W W₁ last
-        → WalkEnds rule s v (A at p) (before (length s) (A at p) (stored T (cell (length s) (A at p)) openMark)) T₂ W W₁ last
+        → WalkEnds rule s v (A at p) (before (length s) (A at p) (stored T (cell (length s) (A at p)) openMark 0)) T₂ W W₁ last
     at-start last h = subst (λ (U : List ℕ). WalkEnds rule s v (A at p) (before (length s) (A at p) U) T₂ W W₁ last) e h
 
     pub over-may-finish : (last : Walk) → WalkEnds rule s v (A at p) (before (length s) (A at p) T₁) T₂ W W₁ last → FinishReady (length s) v T₂ W₁ last
     over-may-finish last h = over-finish r free last (at-start last h)
 
   module _ (T₂ : List ℕ) (w m : ℕ) (c : Counts (cells v (length s)) T₁ T₂ w) (q : m ≡ fresh (held (length s) T (A at p))) where
-    counts-start : Counts (cells v (length s)) (stored T (cell (length s) (A at p)) openMark) T₂ w
+    counts-start : Counts (cells v (length s)) (stored T (cell (length s) (A at p)) openMark 0) T₂ w
     counts-start = subst (λ (U : List ℕ). Counts (cells v (length s)) U T₂ w) e c
 
     -- The count fits.
@@ -276,7 +303,7 @@ module _ {rule : ℕ → Rule} {s : List ℕ} {v A p : ℕ} {T W : List ℕ} (r 
     holds-still : (y : Pair) → Reached rule s (A at p) y → Holds rule s T y
     holds-still y i =
         let h = reached-held i in
-        (result (h .0), right-at y (h .0) (reached-cell rule s v (r .closed) (A at p) (r .within) i .0) (h .1), h .1 .code-is)
+        (result (h .0), right-at y (h .0) (reached-cell rule s v (r .closed) (A at p) (r .within) i .0) (h .1), h .1 .code-is, reaching-pair rule s v T (k .reaching) y (h .0) (reached-cell rule s v (r .closed) (A at p) (r .within) i .0) (h .1))
 
   pub over-settled : (a : Checked Reply) → a ≡ accepted (reply (result t) (0 at 0) 0) → Over rule v s (A at p) T T W W a
   over-settled a e = record {
@@ -294,8 +321,8 @@ module _ {rule : ℕ → Rule} {s : List ℕ} {v A p : ℕ} {T W : List ℕ} (r 
       has = k .right A p t (r .within) m;
       names = refl;
       says =
-          let z : 0 ≡ decided (take (cells v (length s)) T) - decided (take (cells v (length s)) T) = omega arith in
+          let z : 0 ≡ decided (cells v (length s)) T - decided (cells v (length s)) T = omega arith in
           ap (reply (result t) (0 at 0)) z;
-      leaves = record { holds = holds-still k; others = λ B q w d. absurd (d refl); later = refl; size = refl };
+      leaves = record { holds = holds-still k; others = λ B q w d. absurd (d refl); others-reach = λ B q w d. absurd (d refl); later = refl; size = refl };
     };
   }

@@ -44,18 +44,18 @@ pub record Standing (rule : ℕ → Rule) (s : List ℕ) (v : ℕ) (x : Pair) (O
 
 module _ {rule : ℕ → Rule} {s : List ℕ} where
   -- A cell that holds no result may be stored to: what was called is called still.
-  pub called-still : {T : List ℕ} {k : Bool} {x y : Pair} (i c : ℕ) → ((t : Result) → ¬ Settled (length s) (heldAt T i) t) → Called rule s T k x y
-      → Called rule s (stored T i c) k x y
-  called-still i c n (first-called e) = first-called e
-  called-still {T} i c n (second-called {B = B} {p = p} {t = t} e m) =
+  pub called-still : {T : List ℕ} {k : Bool} {x y : Pair} (i c m : ℕ) → ((t : Result) → ¬ Settled (length s) (heldAt T i) t) → Called rule s T k x y
+      → Called rule s (stored T i c m) k x y
+  called-still i c far n (first-called e) = first-called e
+  called-still {T} i c far n (second-called {B = B} {p = p} {t = t} e m) =
       second-called e
       (subst (λ (u : ℕ). Settled (length s) u t)
-      (sym (stored-elsewhere T i (cell (length s) (B at p)) c (λ z. n t (subst (λ (j : ℕ). Settled (length s) (heldAt T j) t) z m)))) m)
+      (sym (stored-elsewhere T i (cell (length s) (B at p)) c far (λ z. n t (subst (λ (j : ℕ). Settled (length s) (heldAt T j) t) z m)))) m)
 
-  pub stacked-still : {T W : List ℕ} {d : ℕ} {l : List ℕ} (i c : ℕ) → ((t : Result) → ¬ Settled (length s) (heldAt T i) t) → Stacked rule s T W d l
-      → Stacked rule s (stored T i c) W d l
-  stacked-still i c n alone = alone
-  stacked-still i c n (above k e h t) = above k e (called-still i c n h) (stacked-still i c n t)
+  pub stacked-still : {T W : List ℕ} {d : ℕ} {l : List ℕ} (i c m : ℕ) → ((t : Result) → ¬ Settled (length s) (heldAt T i) t) → Stacked rule s T W d l
+      → Stacked rule s (stored T i c m) W d l
+  stacked-still i c m n alone = alone
+  stacked-still i c m n (above k e h t) = above k e (called-still i c m n h) (stacked-still i c m n t)
 
   -- The work slice above the callers is free.
   pub stacked-above : {T W : List ℕ} {d : ℕ} {l : List ℕ} (i c : ℕ) → d ≤ i → Stacked rule s T W d l → Stacked rule s T (set W i c) d l

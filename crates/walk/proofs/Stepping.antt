@@ -3,17 +3,19 @@ use mathlib.Core.Path.{_≡_, refl, sym, ap, _∙_, subst}
 use mathlib.Core.Bool.{Bool, true, false, cond, true≢false}
 use mathlib.Core.List.{List, [], _∷_, map}
 use mathlib.Core.Logic.{inl, inr}
-use Prim.Native.Nat.{ℕ, suc, _+_, _*_, _/_, _≤_, _<_}
+use Prim.Native.Nat.{ℕ, suc, _+_, _*_, _/_, max, _≤_, _<_}
 use native.Mathlib.Omega.{arith}
 use lib.ListN.{length, getD, drop, length-set}
 use lib.Seq.{getD-set-same, drop-set-lt}
 use Rattle.calls.proofs.Table.{weight, opened}
 use Rattle.grammar.specs.Rule.{Rule, call}
-use Rattle.schema.specs.Cells.{heldAt, stored}
+use Rattle.schema.specs.Cells.{heldAt, stored, HasCell}
 use Rattle.schema.proofs.Cells.{view}
 use Rattle.schema.specs.Closed.{Closed}
 use Rattle.schema.specs.Derivation.{Pair, _at_, Result, success, failure, Stop, missing, end, gives, stops, calls, act, second, stopped, result, loop}
-use Rattle.schema.specs.Table.{cell, cells, held}
+use Rattle.schema.specs.Examined.{leafReachOf}
+use Rattle.schema.specs.Table.{cell, cells, held, reach}
+use Rattle.schema.proofs.Closed.{calls-call}
 use Rattle.schema.proofs.Cell.{pairOf, PairWithin, cell-below, cell-pair, pair-cell, pair-within}
 use Rattle.cells.specs.Packed.{entry}
 use Rattle.step.specs.Codes.{openMark, Settled, Called, first-called, second-called, Given, by-leaf, by-calls, resultOf}
@@ -60,17 +62,19 @@ module _ (rule : ℕ → Rule) (s : List ℕ) (v : ℕ) (closed : Closed v rule)
   abbrev N : ℕ
   N = cells v (length s)
 
-  -- A result that is held gives the pair its own, after the second call.
-  given-second : {T : List ℕ} {k : Bool} {x y : Pair} {r : Result} → k ≡ true → Called rule s T k x y → Settled (length s) (held (length s) T y) r → Given rule s T x r
-  given-second e (first-called h) m = absurd (true≢false (cc))
-  given-second e (second-called h f) m = by-calls h f m
+  -- A result that is held gives the pair its own, after the second call, and with the first's the reach.
+  given-second : {T : List ℕ} {k : Bool} (A p : ℕ) {y : Pair} {r : Result} {far : ℕ} → k ≡ true → Called rule s T k (A at p) y → Settled (length s) (held (length s) T y) r
+      → ((B C D : ℕ) → rule A ≡ call B C D → far ≡ max (reach (length s) T (B at p)) (reach (length s) T y)) → Given rule s T (A at p) r far
+  given-second A p e (first-called h) m f = absurd (true≢false (cc))
+  given-second {T = T} A p {r = r} e (second-called {B = B} {C = C} {D = D} h g) m f =
+      subst (Given rule s T (A at p) r) (sym (f B C D (calls-call (rule A) s p B C D h))) (by-calls h g m)
 
   open-unsettled : {c : ℕ} → c ≡ openMark → (t : Result) → ¬ Settled (length s) c t
   open-unsettled e (success q) m = let h = m .code-is in let l = m .ends in omega arith
   open-unsettled e failure m = let h = m .code-is in omega arith
 
-  module _ {x : Pair} {O U T W : List ℕ} {y : State} (g : Standing rule s v x O U T W y) (room : N ≤ length O) where
-    in-table : (z : Pair) → PairWithin v (length s) z → cell (length s) z < length T
+  module _ {x : Pair} {O U T W : List ℕ} {y : State} (g : Standing rule s v x O U T W y) (room : 2 * N ≤ length O) where
+    in-table : (z : Pair) → PairWithin v (length s) z → HasCell T (cell (length s) z)
     in-table z i = let l = cell-below v (length s) z i in let e = g .through .size in omega arith
 
     called-in : PairWithin v (length s) (calledOf y)
@@ -87,14 +91,14 @@ module _ (rule : ℕ → Rule) (s : List ℕ) (v : ℕ) (closed : Closed v rule)
 
     pub known : {r : Result} {T′ : List ℕ} → LookedUp rule s T (calledOf y) r T′ → Known r T′
     known (settled-before m) = record { through = g .through; called = g .called; stacked = g .stacked; held-is = m; no-more = omega arith }
-    known {r} (leaf-settled {c} u e m) =
+    known {r} (leaf-settled {c} {m = far} u e m j) =
         let i = cell (length s) (calledOf y) in
-        let f = leaf-falls rule s v closed few short (g .within) (g .through) room (y .called) (y .target) (g .called) u c r m e in
+        let f = leaf-falls rule s v closed few short (g .within) (g .through) room (y .called) (y .target) (g .called) u c r m far e j in
         record {
-          through = leaf-through rule s v closed few short (g .within) (g .through) room (y .called) (y .target) (g .called) u c r m e;
-          called = called-still i c (λ t h. settled-not (length s) (heldAt T i) t h u) (g .called);
-          stacked = stacked-still i c (λ t h. settled-not (length s) (heldAt T i) t h u) (g .stacked);
-          held-is = looked-held rule s T (calledOf y) (in-table (calledOf y) called-in) (leaf-settled u e m);
+          through = leaf-through rule s v closed few short (g .within) (g .through) room (y .called) (y .target) (g .called) u c r m far e j;
+          called = called-still i c far (λ t h. settled-not (length s) (heldAt T i) t h u) (g .called);
+          stacked = stacked-still i c far (λ t h. settled-not (length s) (heldAt T i) t h u) (g .stacked);
+          held-is = looked-held rule s T (calledOf y) (in-table (calledOf y) called-in) (leaf-settled u e m j);
           no-more = omega arith;
         }
 
@@ -139,8 +143,8 @@ module _ (rule : ℕ → Rule) (s : List ℕ) (v : ℕ) (closed : Closed v rule)
           let z = g .work-size in
           rw (o .table-is, o .work-is) (above (y .second)
           (getD-set-same W (y .depth) c 0 (omega arith) ∙ ap (entry (y .second)) (sym (pair-cell v (length s) (topOf y) (g .within))))
-          (called-cells (called-still i openMark free (g .called)))
-          (stacked-above (y .depth) c (omega arith) (stacked-still i openMark free (g .stacked))))
+          (called-cells (called-still i openMark 0 free (g .called)))
+          (stacked-above (y .depth) c (omega arith) (stacked-still i openMark 0 free (g .stacked))))
 
       opened-later : drop N W′ ≡ drop N U
       opened-later =
@@ -217,11 +221,11 @@ module _ (rule : ℕ → Rule) (s : List ℕ) (v : ℕ) (closed : Closed v rule)
       found : Known (h .r) (h .T₁)
       found = known (h .looked-up)
 
-      given : Given rule s (h .T₁) (topOf y) (h .r)
-      given = given-second (h .second-call) (found .called) (found .held-is)
+      given : Given rule s (h .T₁) (topOf y) (h .r) (h .m)
+      given = given-second (y .variable) (y .position) (h .second-call) (found .called) (found .held-is) (h .reach-is)
 
       settled-through : Through rule s v x O T′ (g .stack)
-      settled-through = rw (h .table-is) (settle-through rule s v closed few short (g .within) (found .through) room c (h .r) (h .code-is) given)
+      settled-through = rw (h .table-is) (settle-through rule s v closed few short (g .within) (found .through) room c (h .r) (h .code-is) (h .m) given)
 
       top-open : (t : Result) → ¬ Settled (length s) (heldAt (h .T₁) (cell (length s) (topOf y))) t
       top-open =
@@ -231,7 +235,7 @@ module _ (rule : ℕ → Rule) (s : List ℕ) (v : ℕ) (closed : Closed v rule)
 
       settled-falls : (z : State) → toDo T′ N z < toDo T N y
       settled-falls z =
-          let f = settle-falls rule s v closed few short (g .within) (found .through) room c (h .r) (h .code-is) given in
+          let f = settle-falls rule s v closed few short (g .within) (found .through) room c (h .r) (h .code-is) (h .m) given in
           let e = ap (λ (M : List ℕ). weight (view mark M) N) (h .table-is) in
           let l = found .no-more in
           let a = to-do-le T′ N z in
@@ -256,19 +260,19 @@ module _ (rule : ℕ → Rule) (s : List ℕ) (v : ℕ) (closed : Closed v rule)
               let cell-is : cell (length s) (topOf z) ≡ i = ap (cell (length s)) top ∙ cell-pair (length s) i in
               let under-is : pairOf (length s) j ≡ calledOf z =
               ap (pairOf (length s)) j-is ∙ pair-cell v (length s) (topOf y) (g .within) ∙ sym (b .called-is) in
-              let still = called-still (cell (length s) (topOf y)) c top-open called in
+              let still = called-still (cell (length s) (topOf y)) c (h .m) top-open called in
               record {
                 stack = l;
                 within = subst (PairWithin v (length s)) (sym top) w;
                 called =
                     rw (b .second-is ∙ parts .call, h .table-is)
-                    (subst (λ (u : Pair). Called rule s (stored (h .T₁) (cell (length s) (topOf y)) c) k u (calledOf z)) (sym top)
-                    (subst (Called rule s (stored (h .T₁) (cell (length s) (topOf y)) c) k (pairOf (length s) i)) under-is still));
+                    (subst (λ (u : Pair). Called rule s (stored (h .T₁) (cell (length s) (topOf y)) c (h .m)) k u (calledOf z)) (sym top)
+                    (subst (Called rule s (stored (h .T₁) (cell (length s) (topOf y)) c (h .m)) k (pairOf (length s) i)) under-is still));
                 through = subst (λ (u : ℕ). Through rule s v x O T′ (u ∷ l)) (sym cell-is) t;
                 stacked =
                     rw (h .table-is, h .work-same, ← d-is)
-                    (subst (λ (u : ℕ). Stacked rule s (stored (h .T₁) (cell (length s) (topOf y)) c) W d (u ∷ l)) (sym cell-is)
-                    (stacked-still (cell (length s) (topOf y)) c top-open rest));
+                    (subst (λ (u : ℕ). Stacked rule s (stored (h .T₁) (cell (length s) (topOf y)) c (h .m)) W d (u ∷ l)) (sym cell-is)
+                    (stacked-still (cell (length s) (topOf y)) c (h .m) top-open rest));
                 work-later = ap (drop N) (h .work-same) ∙ g .work-later;
                 work-size = ap length (h .work-same) ∙ g .work-size;
               }
@@ -277,7 +281,7 @@ module _ (rule : ℕ → Rule) (s : List ℕ) (v : ℕ) (closed : Closed v rule)
       pub on-settled : PairWithin v (length s) x → y .depth ≡ 0 → TableEnds rule s v x O T′ (result (resultOf c)) (0 at 0) []
       on-settled w e =
           let root = at-bottom (found .through .inv .trail) (subst (λ (d : ℕ). Stacked rule s (h .T₁) W d (cell (length s) (topOf y) ∷ g .stack)) e (found .stacked)) in
-          rw (h .table-is) (settle-ends rule s v closed few short w (g .within) (found .through) room c (h .r) (h .code-is) given root)
+          rw (h .table-is) (settle-ends rule s v closed few short w (g .within) (found .through) room c (h .r) (h .code-is) (h .m) given root)
 
     -- ---- What a step leaves behind.
 
@@ -329,7 +333,7 @@ module _ {rule : ℕ → Rule} {s : List ℕ} {v A p : ℕ} {T₀ W₀ : List �
   closed = r .walkable .closed
 
   -- The bounds of the asked pair.
-  pub asked-bounds : (1 ≤ A) × (A ≤ 256) × (length s ≤ 4096) × (p ≤ length s) × (cell (length s) (A at p) < length T₀)
+  pub asked-bounds : (1 ≤ A) × (A ≤ 256) × (length s ≤ 4096) × (p ≤ length s) × HasCell T₀ (cell (length s) (A at p))
   asked-bounds =
       let w = r .within in
       let f = r .walkable .few in
@@ -372,13 +376,13 @@ module _ {rule : ℕ → Rule} {s : List ℕ} {v A p : ℕ} {T₀ W₀ : List �
     ends z h = steps-end rule s v closed (r .walkable .few) (r .walkable .short) g (room-before r) (r .work-room) (r .within) z h
 
   -- The asked pair is a leaf,
-  pub leaf-ends : (c : Cell) (t : Result) → Settled (length s) (c .0) t → act rule s (A at p) ≡ gives t
-      → WalkEnds rule s v (A at p) O (stored T₀ (cell (length s) (A at p)) (c .0)) W₀ W₀ (walk.Settled c)
-  leaf-ends c t m e = record {
+  pub leaf-ends : (c : Cell) (t : Result) → Settled (length s) (c .0) t → act rule s (A at p) ≡ gives t → c .1 ≡ leafReachOf rule (A at p)
+      → WalkEnds rule s v (A at p) O (stored T₀ (cell (length s) (A at p)) (c .0) (c .1)) W₀ W₀ (walk.Settled c)
+  leaf-ends c t m e f = record {
     opens = [];
     table =
         settle-ends rule s v closed (r .walkable .few) (r .walkable .short) (r .within) (r .within)
-        (begins-through rule s v closed (r .walkable .few) (r .walkable .short) A p T₀ W₀ r) (room-before r) (c .0) t m (by-leaf e) refl;
+        (begins-through rule s v closed (r .walkable .few) (r .walkable .short) A p T₀ W₀ r) (room-before r) (c .0) t m (c .1) (subst (Given rule s T₀ (A at p) t) (sym f) (by-leaf e)) refl;
     stops-at = refl;
     settled-code = (t, m);
     trail = nothing-open;

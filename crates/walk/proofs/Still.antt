@@ -1,7 +1,7 @@
 -- What is asked of the table holds all along. Assumes nothing.
 use mathlib.Core.Path.{_≡_, _∙_}
 use mathlib.Core.List.{List}
-use Prim.Native.Nat.{ℕ, _≤_}
+use Prim.Native.Nat.{ℕ, _*_, _≤_}
 use native.Mathlib.Omega.{arith}
 use lib.ListN.{length}
 use Rattle.grammar.specs.Rule.{Rule}
@@ -14,7 +14,7 @@ use Rattle.walk.proofs.Through.{Through}
 
 -- What is asked of the table and the work slice holds all along.
 module _ {rule : ℕ → Rule} {s : List ℕ} {v A p : ℕ} {T₀ W₀ : List ℕ} (r : WalkReady rule s v A p T₀ W₀) where
-  pub room-before : cells v (length s) ≤ length (before (length s) (A at p) T₀)
+  pub room-before : 2 * cells v (length s) ≤ length (before (length s) (A at p) T₀)
   room-before = let m = r .walkable .room in simp stored-length m
 
   -- Of the table,
@@ -27,4 +27,4 @@ module _ {rule : ℕ → Rule} {s : List ℕ} {v A p : ℕ} {T₀ W₀ : List �
         record { few = w .few; short = w .short; closed = w .closed; room = omega arith; fits = g .fits }
 
     pub table-length : length T ≡ length T₀
-    table-length = g .size ∙ stored-length T₀ (cell (length s) (A at p)) 0
+    table-length = g .size ∙ stored-length T₀ (cell (length s) (A at p)) 0 0

@@ -1,9 +1,9 @@
 // One walk over one lent table, from any table: what a pair has, found by calls and looked up in the table, the callers in a lent work slice.
 ghost use mathlib.Core.Path.{_≡_};
-ghost use Prim.Native.Nat.{ℕ, _+_, _≤_, _<_};
+ghost use Prim.Native.Nat.{ℕ, _+_, _≤_};
 ghost use lib.ListN.{length};
 ghost use Rattle.grammar.specs.Words.{ruleIn};
-ghost use Rattle.schema.specs.Cells.{stored};
+ghost use Rattle.schema.specs.Cells.{stored, HasCell};
 ghost use Rattle.schema.specs.Derivation.{_at_, calls, act};
 ghost use Rattle.schema.specs.Table.{cell, cells, held};
 ghost use Rattle.step.specs.Codes.{Unsettled};
@@ -18,6 +18,7 @@ use finish::finish;
 use grammar::sheet::Rules;
 use rules::Act;
 use rules::act_at;
+use rules::leaf_reach;
 use step::State;
 use step::Step;
 use step::Walk;
@@ -69,8 +70,8 @@ fn walk_on(
 
 // Settles the asked pair, which is a leaf.
 fn settle_asked(n: usize, variable: u32, position: u32, leaf: Cell, table: &mut [u32]) -> Walk
-    requires { ⌜ (1 ≤ variable) × (variable ≤ 256) × (n ≤ 4096) × (position ≤ n) × (cell n (variable at position) < length (now table)) ⌝ }
-    ensures stores { λ _. ⌜ now (table .exit) ≡ stored (now (table .entry)) (cell n (variable at position)) (leaf .0) ⌝ }
+    requires { ⌜ (1 ≤ variable) × (variable ≤ 256) × (n ≤ 4096) × (position ≤ n) × HasCell (now table) (cell n (variable at position)) ⌝ }
+    ensures stores { λ _. ⌜ now (table .exit) ≡ stored (now (table .entry)) (cell n (variable at position)) (leaf .0) (leaf .1) ⌝ }
     ensures ends { λ r. ⌜ r ≡ Settled leaf ⌝ }
 {
     leaf.store(table, cell_number(n, variable, position));
@@ -94,12 +95,13 @@ fn walk_from(
     match act_at(rules, input, variable, position) {
         Act::Calls(b, _, _) => walk_on(rules, input, variable, position, b, variables, table, work),
         Act::Success(end) => {
-            let leaf = Cell::success(end);
+            let leaf = Cell::success(end, end);
             let end = settle_asked(input.len(), variable, position, leaf, table);
             Walked { end, count: 0 }
         }
         Act::Failure => {
-            let end = settle_asked(input.len(), variable, position, Cell::FAILURE, table);
+            let leaf = Cell::failure(leaf_reach(rules, variable, position));
+            let end = settle_asked(input.len(), variable, position, leaf, table);
             Walked { end, count: 0 }
         }
         Act::Missing => Walked {

@@ -4,7 +4,7 @@ use mathlib.Core.Bool.{Bool, true, false, true≢false}
 use mathlib.Core.List.{List, []}
 use Prim.Native.Nat.{ℕ, _≤_, _<_}
 use native.Mathlib.Omega.{arith}
-use lib.ListN.{length, getD, set, take, drop, length-set}
+use lib.ListN.{length, getD, set, drop, length-set}
 use lib.Seq.{drop-set-lt, getD-set-same, getD-set-other}
 use Rattle.grammar.specs.Refusal.{Checked, accepted}
 use Rattle.grammar.specs.Rule.{Rule}
@@ -95,10 +95,10 @@ nothing-written rule s x loop z count e = refl
 
 module _ {rule : ℕ → Rule} {s : List ℕ} {v A p : ℕ} {T W out : List ℕ} (r : AskWriteReady rule s v A p T W out) {T₁ W₁ : List ℕ} (t : Checked Reply)
     (a : Says rule v s (A at p) T T₁ W W₁ t) {b : Bool} (test : b ≡ hasResult t) where
-  told-is : t ≡ accepted (reply (a .2 .outcome) (a .2 .named) (decided (take (cells v (length s)) T₁)))
+  told-is : t ≡ accepted (reply (a .2 .outcome) (a .2 .named) (decided (cells v (length s)) T₁))
   told-is = a .1 ∙ ap accepted (a .2 .says)
 
-  test-is : b ≡ hasResult (accepted (reply (a .2 .outcome) (a .2 .named) (decided (take (cells v (length s)) T₁))))
+  test-is : b ≡ hasResult (accepted (reply (a .2 .outcome) (a .2 .named) (decided (cells v (length s)) T₁)))
   test-is = test ∙ ap hasResult told-is
 
   outcome-is : outcomeOf (a .0) ≡ a .2 .outcome
@@ -113,7 +113,7 @@ module _ {rule : ℕ → Rule} {s : List ℕ} {v A p : ℕ} {T W out : List ℕ}
     a .2,
     record {
       lines = [];
-      ordered = subst (λ (o : Outcome). Lines rule s (A at p) o []) (sym outcome-is) (nothing-written rule s (A at p) (a .2 .outcome) (a .2 .named) (decided (take (cells v (length s)) T₁)) (sym test-is ∙ f));
+      ordered = subst (λ (o : Outcome). Lines rule s (A at p) o []) (sym outcome-is) (nothing-written rule s (A at p) (a .2 .outcome) (a .2 .named) (decided (cells v (length s)) T₁) (sym test-is ∙ f));
       counted = refl;
       written = refl;
     },
@@ -123,7 +123,7 @@ module _ {rule : ℕ → Rule} {s : List ℕ} {v A p : ℕ} {T W out : List ℕ}
     -- Success and failure: the lines may be written,
     pub may-write-lines : LinesReady rule s v A p T₁ W₁ out
     may-write-lines =
-        let k = result-of (a .2 .outcome) (a .2 .named) (decided (take (cells v (length s)) T₁)) (sym test-is ∙ f) in
+        let k = result-of (a .2 .outcome) (a .2 .named) (decided (cells v (length s)) T₁) (sym test-is ∙ f) in
         let z = a .2 .leaves .size in
         let y = a .2 .size in
         let q = r .ready in
@@ -140,7 +140,7 @@ module _ {rule : ℕ → Rule} {s : List ℕ} {v A p : ℕ} {T W out : List ℕ}
     -- and are the question's.
     pub says-lines : {W₂ out₂ : List ℕ} {count : ℕ} → WriteEnds rule s v (A at p) W₁ W₂ out out₂ count → SaysWriting rule v s (A at p) T T₁ W W₂ out out₂ t count
     says-lines h =
-        let k = result-of (a .2 .outcome) (a .2 .named) (decided (take (cells v (length s)) T₁)) (sym test-is ∙ f) in
+        let k = result-of (a .2 .outcome) (a .2 .named) (decided (cells v (length s)) T₁) (sym test-is ∙ f) in
         let m = a .2 in (
           a .0,
           a .1,

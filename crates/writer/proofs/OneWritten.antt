@@ -12,7 +12,7 @@ use Rattle.grammar.specs.Sheet.{Grammar}
 use Rattle.schema.specs.Derivation.{Pair, _at_, Result, second, Outcome, result, stopped, loop}
 use Rattle.schema.specs.Handed.{Handed, handed, writerOf}
 use Rattle.schema.specs.Line.{Line, lineOf, linesBytes, Stands}
-use Rattle.schema.proofs.Handed.{handed-pair, handed-slices}
+use Rattle.schema.proofs.Handed.{handed-pair}
 use Rattle.finish.specs.Reply.{outcomeOf, told}
 use Rattle.memo.proofs.Result.{one-answer, one-table}
 use Rattle.writer.specs.Writer.{Unwritten, Visits, passed, leaf, node, Lines, Writes, RepliesWriting, WriterPromise}
@@ -100,7 +100,6 @@ module _ (s input : List ℕ) (A p : ℕ) (table work out : List ℕ) where
       by-sheet (refused x l) e m k = (m .0 ∙ sym (k .0), m .1 ∙ sym (k .1), m .3 ∙ sym (k .3), m .4 ∙ sym (k .4))
       by-sheet (accepted g) e m k =
           let within = handed-pair s call g e (A at p) refl in
-          let room = handed-slices s call g e (length table) (length work) refl .0 in
-          let same = one-answer s call g e (A at p) within room (m .2) (k .2) in
+          let same = one-answer s call g e (A at p) within (m .2) (k .2) in
           let wrote = writes-one (g .rule) input (A at p) _ _ out out′ out″ (r .lines) (t .lines) (ap outcomeOf same) (m .3) (k .3) in
-          (m .1 ∙ ap accepted same ∙ sym (k .1), one-table s call g e (A at p) within room (m .2) (k .2), wrote .0, wrote .1)
+          (m .1 ∙ ap accepted same ∙ sym (k .1), one-table s call g e (A at p) within (m .2) (k .2), wrote .0, wrote .1)

@@ -6,6 +6,7 @@ use lib.ListN.{length}
 use Rattle.grammar.specs.Rule.{Rule}
 use Rattle.schema.specs.Closed.{Closed}
 use Rattle.schema.specs.Derivation.{Pair, _at_}
+use Rattle.schema.specs.Cells.{HasCell}
 use Rattle.schema.specs.Table.{cell, held}
 use Rattle.schema.proofs.Cell.{PairWithin, cell-below}
 use Rattle.step.specs.Codes.{Code, first-called, second-called}
@@ -45,7 +46,7 @@ module _ {rule : ℕ → Rule} {s : List ℕ} {v : ℕ} {T W out : List ℕ} {x 
   lines-small = let c = cells-small v (length s) (q .turns .few) (q .turns .short) in let l = q .few-lines in omega arith
 
   -- which may be laid down,
-  pub lay-ready : (1 ≤ x .variable) × (x .variable ≤ 256) × (length s ≤ 4096) × (x .position ≤ length s) × (cell (length s) (pairAt x) < length T)
+  pub lay-ready : (1 ≤ x .variable) × (x .variable ≤ 256) × (length s ≤ 4096) × (x .position ≤ length s) × HasCell T (cell (length s) (pairAt x))
       × Code (held (length s) T (pairAt x)) × (49 * x .lines + 49 ≤ length out)
   lay-ready =
       let t = q .turns in

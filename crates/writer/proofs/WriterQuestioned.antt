@@ -44,7 +44,7 @@ module _ (s input : List ℕ) (A p table work out : ℕ) where
   unfolding checked callCondition
   then-tested g =
       by-tests (length input) out g (ltb 4096 (length input)) (pairVariableOut (g .variables) (A at p)) (pairPositionOut (length input) (A at p))
-      (ltb table (cells (g .variables) (length input)) || ltb work (cells (g .variables) (length input)))
+      (ltb table (2 * cells (g .variables) (length input)) || ltb work (cells (g .variables) (length input)))
 
   -- The writer is refused as the question is; else 11 is tested.
   pub writer-follows : handed s (writerOf input (A at p) table work out) ≡ withOutput (length input) out (handed s (questionOf input (A at p) table work))
@@ -72,7 +72,7 @@ module _ {s input : List ℕ} {A p : ℕ} {before after : List ℕ} {r : Sheet} 
       (t, refl, refl, refl, k)
 
   module _ {g : Line} (e : r ≡ Read g)
-      {small : Bool} (tested : small ≡ (ltb (length table) (cells (g .variables) (length input)) || ltb (length work) (cells (g .variables) (length input)))) where
+      {small : Bool} (tested : small ≡ (ltb (length table) (2 * cells (g .variables) (length input)) || ltb (length work) (cells (g .variables) (length input)))) where
     -- Refused for a slice that is too small,
     pub writer-slices : {count : ℕ} {t : Checked Reply} → small ≡ true → t ≡ refused 10 0 → count ≡ 0 → Result t count table work out
     writer-slices h t k =

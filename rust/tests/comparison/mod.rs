@@ -171,7 +171,7 @@ impl Room {
     fn holds(&self, answer: &[u32], table: &[u32], output: &[u8]) -> bool {
         self.answer.holds(answer)
             && self.table.holds(table)
-            && self.work.keeps_from(table.len())
+            && self.work.keeps_from(table.len() / 2)
             && self.output.holds(output)
     }
 
@@ -430,7 +430,7 @@ impl Comparison {
 
     /// Lengths of table, work slice and output: two thirds of the time long enough.
     fn lengths(&mut self, cells: usize) -> [usize; 3] {
-        let limits = [cells, cells, recognizer::LINE * cells];
+        let limits = [2 * cells, cells, recognizer::LINE * cells];
         if self.random.one_in(3) {
             return limits.map(|limit| self.around(limit));
         }

@@ -118,7 +118,7 @@ impl Asked<'_> {
     fn cell(&self, pair: Pair) -> u32 {
         let index = |number: u32| usize::try_from(number).expect("an index");
         let row = index(pair.variable - 1) * (self.length + 1);
-        self.reader.table()[row + index(pair.position)]
+        self.reader.table()[2 * (row + index(pair.position))]
     }
 
     /// The pairs that a pair calls, as far as its first one lets it.

@@ -47,7 +47,8 @@ pub struct Question<'a> {
     pub asked: Pair,
 }
 
-/// What a question is answered: the outcome, the named pair if any, and the first V times (n + 1) cells, of which `cells` are decided.
+/// What a question is answered: the outcome, the named pair if any, and the first V times (n + 1) cells, of which `cells` are decided; each is two
+/// numbers, outcome then reach.
 pub struct Answered {
     pub outcome: Outcome,
     pub named: Option<Pair>,
@@ -284,6 +285,29 @@ impl<'a> Recognizer<'a> {
         pair
     }
 
+    /// "A leaf of kind 0 or 1 reaches its place; a byte or class rule reaches one past it .. Kind 4 has the greater reach of its two called pairs. Loop,
+    /// missing and end have reach 0."
+    fn reach(&mut self, pair: Pair, reaches: &mut HashMap<Pair, u32>) -> u32 {
+        if !self.has_result(pair) {
+            return 0;
+        }
+        if let Some(found) = reaches.get(&pair) {
+            return *found;
+        }
+        let found = match self.sheet.rules.get(&pair.variable) {
+            Some(Rule::Byte(_) | Rule::Class(_)) => pair.position + 1,
+            Some(Rule::Calls(..)) => self
+                .called(pair)
+                .into_iter()
+                .map(|called| self.reach(called, reaches))
+                .max()
+                .expect("it calls two"),
+            _ => pair.position,
+        };
+        reaches.insert(pair, found);
+        found
+    }
+
     fn has_result(&mut self, pair: Pair) -> bool {
         matches!(self.outcome(pair), Outcome::Success(_) | Outcome::Failure)
     }
@@ -336,7 +360,7 @@ pub fn judge(sheet: &[u8], entry: &[u8], table: usize, work: usize) -> Result<Ju
         return Err((7, 0));
     }
     let size = sheet.variables as usize * (entry.len() + 1);
-    if table < size || work < size {
+    if table < 2 * size || work < size {
         return Err((10, 0));
     }
     let start = Pair {
@@ -364,7 +388,7 @@ pub fn judge(sheet: &[u8], entry: &[u8], table: usize, work: usize) -> Result<Ju
 
 /// What the verdict with 1,024 cells of its own is to say, or the number of its refusal.
 pub fn verdict(sheet: &[u8], entry: &[u8]) -> Result<Code, u32> {
-    judge(sheet, entry, 1024, 1024)
+    judge(sheet, entry, 2048, 1024)
         .map(|judged| judged.code)
         .map_err(|(number, _)| number)
 }
@@ -378,10 +402,12 @@ fn answer(recognizer: &mut Recognizer, asked: Pair, size: usize) -> Answered {
         _ => Some(recognizer.named(asked)),
     };
     let width = recognizer.entry.len() + 1;
-    let mut table = vec![0; size];
+    let mut table = vec![0; 2 * size];
+    let mut reaches = HashMap::new();
     for pair in reached {
-        table[(pair.variable as usize - 1) * width + pair.position as usize] =
-            code(recognizer.outcome(pair));
+        let cell = (pair.variable as usize - 1) * width + pair.position as usize;
+        table[2 * cell] = code(recognizer.outcome(pair));
+        table[2 * cell + 1] = recognizer.reach(pair, &mut reaches);
     }
     Answered {
         outcome,
@@ -395,7 +421,7 @@ fn answer(recognizer: &mut Recognizer, asked: Pair, size: usize) -> Answered {
 pub fn question(question: Question, table: usize, work: usize) -> Result<Answered, u32> {
     let sheet = question.admit()?;
     let size = question.cells(&sheet);
-    if table < size || work < size {
+    if table < 2 * size || work < size {
         return Err(10);
     }
     let mut recognizer = Recognizer::new(&sheet, question.entry);

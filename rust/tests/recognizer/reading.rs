@@ -86,7 +86,7 @@ pub fn reading(question: Question) -> Option<Vec<Line>> {
 pub fn write(question: Question, table: usize, work: usize, output: usize) -> Result<Written, u32> {
     let sheet = question.admit()?;
     let size = question.cells(&sheet);
-    if table < size || work < size {
+    if table < 2 * size || work < size {
         return Err(10);
     }
     if output < LINE * size {

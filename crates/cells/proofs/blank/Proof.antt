@@ -1,26 +1,27 @@
-use mathlib.Core.Path.{_≡_, ap, _∙_}
+use mathlib.Core.Path.{_≡_}
 use mathlib.Core.List.{_++_}
 use Prim.Native.Nat.{_≤_, _<_, _-_}
 use native.Mathlib.Omega.{arith}
-use lib.ListN.{length, replicate, drop}
+use lib.ListN.{length, replicate, drop, length-set}
 use borrow.Author.Fill.{fill-more}
 use borrow.Author.Needs.{needs}
 use Rattle.cells.proofs.blank.Statement.{statement}
 use Rattle.cells.proofs.blank.Tie as tie
-use Rattle.schema.specs.Cells.{stored}
-use Rattle.schema.proofs.Cells.{stored-length}
 
 abbrev Inv-loop : tie.InvT-loop
-Inv-loop table₀ size i₀ table i = (i ≤ size) × (length table ≡ length table₀) × (table ≡ replicate i 0 ++ drop i table₀)
+Inv-loop numbers₀ size i₀ numbers i = (i ≤ size) × (length numbers ≡ length numbers₀) × (numbers ≡ replicate i 0 ++ drop i numbers₀)
 
 abbrev μ-loop : tie.MeasureT-loop
-μ-loop table₀ size i₀ table i = size - i
+μ-loop numbers₀ size i₀ numbers i = size - i
 
 loop-holds : tie.Need-loop-holds Inv-loop μ-loop
 loop-holds c = search needs
 
-store-requires : tie.Need-store-requires Inv-loop μ-loop
-store-requires c κs = search needs
+mul-numbers : tie.Need-mul-numbers Inv-loop μ-loop
+mul-numbers c = search needs
+
+slice-write-numbers : tie.Need-slice-write-numbers Inv-loop μ-loop
+slice-write-numbers c = search needs
 
 add-i : tie.Need-add-i Inv-loop μ-loop
 add-i c = search needs
@@ -30,17 +31,16 @@ loop-less c = search needs
 
 loop-again : tie.Need-loop-again Inv-loop μ-loop
 loop-again c =
-    let stored = c .before .before .store .ensures in
-    let inv = c .before .before .before .before .before .loop .inv in
-    let l : c .before .before .before .before .before .loop .i < length (c .before .before .before .before .before .before .before .args .table .now) = omega arith in
-    (omega arith, ap length stored ∙ stored-length (c .before .before .before .before .before .loop .table) (c .before .before .before .before .before .loop .i) 0 ∙ inv .1, stored ∙ rw (inv .2) (fill-more _ 0 _ l))
+    let inv = c .before .loop .inv in
+    let l : c .before .loop .i < length (c .before .before .args .numbers .now) = omega arith in
+    (omega arith, simp length-set (inv .1), rw (inv .2) (fill-more _ 0 _ l))
 
 same-length : tie.Need-same-length Inv-loop μ-loop
 same-length c = search needs
 
 returns : tie.Need-returns Inv-loop μ-loop
 returns c =
-    let e : c .before .loop .i ≡ c .before .before .before .args .size = omega arith in
+    let e : c .before .loop .i ≡ c .before .before .args .size = omega arith in
     rw e at (c .before .loop .inv .2)
 
 pub blank-spec : {M : Type 1} → statement M
@@ -50,7 +50,8 @@ blank-spec =
     Inv-loop
     μ-loop
     loop-holds
-    store-requires
+    mul-numbers
+    slice-write-numbers
     add-i
     loop-less
     loop-again

@@ -2,7 +2,8 @@ use mathlib.Core.Path.{sym, ap, _∙_, subst}
 use mathlib.Core.List.{List, _++_}
 use Prim.Native.Nat.{ℕ, _*_, _+_}
 use native.Mathlib.Omega.{arith}
-use lib.ListN.{getD, take, drop, length-take, length-drop}
+use lib.ListN.{take, drop, length-take, length-drop}
+use Rattle.schema.specs.Cells.{heldAt}
 use Rattle.schema.specs.Derivation.{_at_}
 use Rattle.schema.specs.Line.{lineOf, lineBytes}
 use Rattle.step.specs.Codes.{Code, resultOf}
@@ -39,7 +40,7 @@ result-line-requires : tie.Need-result-line-requires
 result-line-requires c κs =
     let l = c .before .before in
     let st = l .before .before .before .before in
-    let e = l .load .ensures ∙ ap (λ (i : ℕ). getD (st .args .table .now) i 0) (l .before .cell-number .ensures) in
+    let e = l .load .ensures .0 ∙ ap (λ (i : ℕ). heldAt (st .args .table .now) i) (l .before .cell-number .ensures) in
     (simp (length-take, length-drop) (omega arith), subst Code (sym e) (st .pre .5))
 
 same-length : tie.Need-same-length
@@ -53,7 +54,7 @@ returns c =
     let a = st .args in
     let out = a .out .now in
     let k = 49 * a .x .lines in
-    let e = l .load .ensures ∙ ap (λ (i : ℕ). getD (a .table .now) i 0) (l .before .cell-number .ensures) in
+    let e = l .load .ensures .0 ∙ ap (λ (i : ℕ). heldAt (a .table .now) i) (l .before .cell-number .ensures) in
     part-put out k 49 (f .result-line .last .0)
     ∙ ap (λ (r : List ℕ). take k out ++ (r ++ drop (k + 49) out)) (f .result-line .ensures ∙ ap (λ (m : ℕ). lineBytes (lineOf (a .x .variable at a .x .position) (resultOf m) (a .first) (a .second))) e)
 

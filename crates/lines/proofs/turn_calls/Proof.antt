@@ -36,19 +36,19 @@ returns-2 c =
     let a = st .args in
     λ t m.
     then-second (a .n) (a .work .now) (a .b at a .position) (second (a .c) (a .d) (a .position) t) (a .d at a .position) (k .number-at .result) (c .turn-second .result)
-    (k .number-at .ensures) (o .if1 .left) (after-failure (st .pre) (l .load .ensures) (l .before .cell-number .ensures) (c .before .if2 .taken) t m) (c .turn-second .ensures)
+    (k .number-at .ensures) (o .if1 .left) (after-failure (st .pre) (l .load .ensures .0) (l .before .cell-number .ensures) (c .before .if2 .taken) t m) (c .turn-second .ensures)
 
 sub-turn-second : tie.Need-sub-turn-second
 sub-turn-second c =
     let l = c .before .before .before .before .before in
     let st = l .before .before .before .before .before .before in
-    ends (st .pre) (l .load .ensures) (l .before .cell-number .ensures) (c .before .before .if2 .left) .0
+    ends (st .pre) (l .load .ensures .0) (l .before .cell-number .ensures) (c .before .before .if2 .left) .0
 
 turn-second-requires-2 : tie.Need-turn-second-requires-2
 turn-second-requires-2 c κs =
     let l = c .before .before .before .before .before in
     let st = l .before .before .before .before .before .before in
-    number-cell (st .pre) (st .args .c) _ (st .pre .c-in) (ends (st .pre) (l .load .ensures) (l .before .cell-number .ensures) (c .before .before .if2 .left) .1)
+    number-cell (st .pre) (st .args .c) _ (st .pre .c-in) (ends (st .pre) (l .load .ensures .0) (l .before .cell-number .ensures) (c .before .before .if2 .left) .1)
 
 returns-3 : tie.Need-returns-3
 returns-3 c =
@@ -59,7 +59,7 @@ returns-3 c =
     let a = st .args in
     λ t m.
     then-second (a .n) (a .work .now) (a .b at a .position) (second (a .c) (a .d) (a .position) t) _ (k .number-at .result) (c .turn-second2 .result)
-    (k .number-at .ensures) (o .if1 .left) (after-success (st .pre) (l .load .ensures) (l .before .cell-number .ensures) (c .before .before .before .if2 .left) t m) (c .turn-second2 .ensures)
+    (k .number-at .ensures) (o .if1 .left) (after-success (st .pre) (l .load .ensures .0) (l .before .cell-number .ensures) (c .before .before .before .if2 .left) t m) (c .turn-second2 .ensures)
 
 pub turn-calls-spec : {M : Type 1} → statement M
 turn-calls-spec =

@@ -9,6 +9,9 @@ add-blank c = search needs
 mul-blank : tie.Need-mul-blank
 mul-blank c = search needs
 
+mul-blank-2 : tie.Need-mul-blank-2
+mul-blank-2 c = search needs
+
 blank-requires : tie.Need-blank-requires
 blank-requires c κs = search needs
 
@@ -30,6 +33,7 @@ ask-spec =
     (tie.spec
     add-blank
     mul-blank
+    mul-blank-2
     blank-requires
     ask-over-requires
     same-length

@@ -13,6 +13,11 @@ mul-size c =
     let a = c .args in
     omega (arith, cells-small (a .variables) (a .n) (c .pre .0) (c .pre .1))
 
+mul-if1 : tie.Need-mul-if1
+mul-if1 c =
+    let a = c .args in
+    omega (arith, cells-small (a .variables) (a .n) (c .pre .0) (c .pre .1))
+
 returns : tie.Need-returns
 returns c = rw (lt-ltb _ _ (c .if1 .taken))
 
@@ -20,4 +25,4 @@ returns-2 : tie.Need-returns-2
 returns-2 c = rw (le-ltb _ _ (c .if1 .left))
 
 pub too-small-spec : {M : Type 1} → statement M
-too-small-spec = tie.close (tie.spec add-size mul-size returns returns-2)
+too-small-spec = tie.close (tie.spec add-size mul-size mul-if1 returns returns-2)

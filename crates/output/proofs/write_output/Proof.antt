@@ -87,7 +87,7 @@ returns-2 c =
     let i = v .before .before .before in
     let a = i .before .before .before .before .args in
     rw (le-ltb _ _ (i .if1 .left))
-    (output-put (a .sheet .now) (a .input .now) (replicate 1024 0) (v .verdict .last .1 .1 .0) (replicate 1024 0) (v .verdict .last .1 .1 .1 .0) (a .out .now)
+    (output-put (a .sheet .now) (a .input .now) (replicate 2048 0) (v .verdict .last .1 .1 .0) (replicate 1024 0) (v .verdict .last .1 .1 .1 .0) (a .out .now)
     (v .verdict .result) refl refl (v .verdict .ensures) (i .if1 .left) (n .numbers-of .result) (u .write-row .last .0) (n .numbers-of .ensures) (u .write-row .ensures)
     (t .certificate .last .1 .1 .1 .1 .1 .0) (t .certificate .result) _ _ (search needs) (search needs) (t .certificate .ensures))
 

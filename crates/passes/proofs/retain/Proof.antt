@@ -6,8 +6,8 @@ use Rattle.passes.proofs.retain.Tie as tie
 retained-out-requires : tie.Need-retained-out-requires
 retained-out-requires c κs = search needs
 
-blank-to-requires : tie.Need-blank-to-requires
-blank-to-requires c κs = search needs
+retain-rows-requires : tie.Need-retain-rows-requires
+retain-rows-requires c κs = search needs
 
 same-length : tie.Need-same-length
 same-length c = search needs
@@ -16,7 +16,7 @@ returns : tie.Need-returns
 returns c =
     let out = c .before .before .before .before .before .retained-out in
     let a = c .before .before .before .before .before .before .before .before .args in
-    let blank = c .before .before .blank-to in
+    let blank = c .before .before .retain-rows in
     (out .ensures, unless-out (out .result) (a .variables) (a .n) (a .c) (a .table .now) (blank .last .0) (c .before .before .before .before .if1 .taken) (blank .ensures))
 
 same-length-2 : tie.Need-same-length-2
@@ -31,4 +31,4 @@ returns-2 c =
 pub retain-spec : {M : Type 1} → statement M
 retain-spec =
     tie.close
-    (tie.spec retained-out-requires blank-to-requires same-length returns same-length-2 returns-2)
+    (tie.spec retained-out-requires retain-rows-requires same-length returns same-length-2 returns-2)

@@ -1,20 +1,13 @@
 -- `act_at` does what the rule of the variable does at the position. Assumes nothing.
-use mathlib.Core.List.{List}
-use mathlib.Core.Path.{_≡_}
-use Prim.Native.Nat.{ℕ, zero, suc, _-_, _≤_}
 use native.Mathlib.Omega.{arith}
-use lib.ListN.{getD}
 use denote.Ref.{now}
 use borrow.Author.Tests.{ne-eqb}
-use Rattle.grammar.specs.Words.{ruleFor, ruleIn}
+use Rattle.grammar.specs.Words.{ruleFor}
+use Rattle.rules.proofs.RuleWords.{word-of}
 use Rattle.schema.specs.Derivation.{actOf}
 use borrow.Author.Needs.{needs}
 use Rattle.rules.proofs.act_at.Statement.{statement}
 use Rattle.rules.proofs.act_at.Tie as tie
-
-word-of : (ws : List ℕ) (A : ℕ) → 1 ≤ A → ruleIn ws A ≡ ruleFor (getD ws (A - 1) 0)
-word-of ws zero h = absurd (omega arith)
-word-of ws (suc i) h = let q : suc i - 1 ≡ i = omega arith in rw q
 
 sub-word : tie.Need-sub-word
 sub-word c = search needs

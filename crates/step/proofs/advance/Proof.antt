@@ -1,14 +1,15 @@
 use mathlib.Core.Path.{refl, sym, _∙_, subst}
 use mathlib.Core.Logic.{inl, inr}
-use Prim.Native.Nat.{ℕ, _-_, _<_}
+use Prim.Native.Nat.{ℕ, _-_}
 use native.Mathlib.Omega.{arith}
 use lib.ListN.{length}
 use Rattle.grammar.specs.Words.{ruleIn}
+use Rattle.schema.specs.Cells.{HasCell}
 use Rattle.schema.specs.Derivation.{success, failure}
 use Rattle.schema.proofs.Cell.{cell-below}
 use Rattle.step.specs.Codes.{Fits, Settled}
 use Rattle.step.specs.Step.{calledOf, settled-before}
-use Rattle.step.proofs.Looking.{held-is, failure-settled, success-settled}
+use Rattle.step.proofs.Looking.{held-is, reach-is, failure-settled, success-settled}
 use Rattle.step.proofs.Stepped.{step-bounds, resume-ready, steps-resume}
 use borrow.Author.Needs.{needs}
 use Rattle.step.proofs.advance.Statement.{statement}
@@ -23,10 +24,10 @@ cell-number-requires c κs =
 load-requires : tie.Need-load-requires
 load-requires c κs =
     let b = step-bounds (c .before .before .before .before .before .pre) in
-    subst (λ (i : ℕ). i < length (c .before .before .before .before .before .args .table .now)) (sym (c .cell-number .ensures)) (b .called-cell)
+    subst (HasCell (c .before .before .before .before .before .args .table .now)) (sym (c .cell-number .ensures)) (b .called-cell)
 
 resume-requires : tie.Need-resume-requires
-resume-requires c κs = resume-ready (c .before .before .before .before .before .before .before .before .before .before .before .pre) _ refl 1 (inl refl)
+resume-requires c κs = resume-ready (c .before .before .before .before .before .before .before .before .before .before .before .pre) _ refl _ (inl (c .before .before .if1 .taken))
 
 same-length : tie.Need-same-length
 same-length c = search needs
@@ -36,18 +37,22 @@ same-length-2 c = search needs
 
 returns : tie.Need-returns
 returns c =
-    let a = c .before .before .before .before .before .before .before .before .before .before .before .before .before .before .args in
-    let r = c .before .before .before .before .before .before .before .before .before .before .before .before .before .before .pre in
+    let i = c .before .before .before .before .before in
+    let l = i .before .before .before in
+    let st = l .before .before .before .before .before .before in
+    let a = st .args in
+    let r = st .pre in
     let n = length (a .input .now) in
-    let e = held-is n (a .table .now) (calledOf (a .x)) _ _ (c .before .before .before .before .before .before .before .before .load .ensures) (c .before .before .before .before .before .before .before .before .before .cell-number .ensures) in
-    let m = failure-settled n 1 refl in
-    steps-resume (ruleIn (a .rules .now)) (a .input .now) (a .table .now) (a .work .now) (a .x) _ {r = failure} m (settled-before (failure-settled n _ (e ∙ c .before .before .before .before .before .if1 .taken))) (r .called) (step-bounds r .called-cell) (c .before .before .resume .result) (c .before .before .resume .ensures)
+    let e = held-is n (a .table .now) (calledOf (a .x)) _ _ (l .load .ensures .0) (l .before .cell-number .ensures) in
+    let far = reach-is n (a .table .now) (calledOf (a .x)) _ _ (l .load .ensures .1) (l .before .cell-number .ensures) in
+    let m = failure-settled n (l .load .result .0) (i .if1 .taken) in
+    steps-resume (ruleIn (a .rules .now)) (a .input .now) (a .table .now) (a .work .now) (a .x) (l .load .result) {r = failure} m (settled-before (failure-settled n _ (e ∙ i .if1 .taken))) far (r .called) (step-bounds r .called-cell) (c .before .before .resume .result) (c .before .before .resume .ensures)
 
 advance-unsettled-requires : tie.Need-advance-unsettled-requires
 advance-unsettled-requires c κs =
     let a = c .before .before .before .before .before .before .before .before .before .before .before .before .before .before .args in
     let n = length (a .input .now) in
-    let e = held-is n (a .table .now) (calledOf (a .x)) _ _ (c .before .before .before .before .before .before .before .before .load .ensures) (c .before .before .before .before .before .before .before .before .before .cell-number .ensures) in
+    let e = held-is n (a .table .now) (calledOf (a .x)) _ _ (c .before .before .before .before .before .before .before .before .load .ensures .0) (c .before .before .before .before .before .before .before .before .before .cell-number .ensures) in
     (c .before .before .before .before .before .before .before .before .before .before .before .before .before .before .pre, rw e (record { no-failure = c .before .before .before .before .before .if1 .left; no-success = c .before .before .if2 .taken }))
 
 same-length-3 : tie.Need-same-length-3
@@ -66,7 +71,7 @@ returns-3 : tie.Need-returns-3
 returns-3 c =
     let a = c .before .before .before .before .before .before .before .before .before .before .before .before .before .before .before .args in
     let n = length (a .input .now) in
-    let e = held-is n (a .table .now) (calledOf (a .x)) _ _ (c .before .before .before .before .before .before .before .before .before .load .ensures) (c .before .before .before .before .before .before .before .before .before .before .cell-number .ensures) in
+    let e = held-is n (a .table .now) (calledOf (a .x)) _ _ (c .before .before .before .before .before .before .before .before .before .load .ensures .0) (c .before .before .before .before .before .before .before .before .before .before .cell-number .ensures) in
     record { opened = e ∙ c .if3 .taken; pair-is = refl; caller-is = refl; depth-is = refl; table-same = refl; work-same = refl }
 
 resume-requires-2 : tie.Need-resume-requires-2
@@ -80,14 +85,20 @@ same-length-7 c = search needs
 
 returns-4 : tie.Need-returns-4
 returns-4 c =
-    let a = c .before .before .before .before .before .before .before .before .before .before .before .before .before .before .before .before .before .before .before .before .args in
-    let r = c .before .before .before .before .before .before .before .before .before .before .before .before .before .before .before .before .before .before .before .before .pre in
+    let o = c .before .before .before .before .before in
+    let i = o .before .before .before in
+    let l = i .before .before .before .before .before .before in
+    let st = l .before .before .before .before .before .before in
+    let a = st .args in
+    let r = st .pre in
     let n = length (a .input .now) in
     let b = step-bounds r in
-    let e = held-is n (a .table .now) (calledOf (a .x)) _ _ (c .before .before .before .before .before .before .before .before .before .before .before .before .before .before .load .ensures) (c .before .before .before .before .before .before .before .before .before .before .before .before .before .before .before .cell-number .ensures) in
+    let k = l .load .result .0 in
+    let e = held-is n (a .table .now) (calledOf (a .x)) _ _ (l .load .ensures .0) (l .before .cell-number .ensures) in
+    let far = reach-is n (a .table .now) (calledOf (a .x)) _ _ (l .load .ensures .1) (l .before .cell-number .ensures) in
     let f = subst (Fits n) e (r .walkable .fits _ (cell-below (a .variables) n (calledOf (a .x)) (b .called-in))) in
-    let m = success-settled n (c .before .before .before .before .before .before .before .before .before .before .before .before .before .before .load .result .0) f (omega (arith, c .before .before .before .before .before .before .before .before .if2 .left)) (c .before .before .before .before .before .if3 .left) in
-    steps-resume (ruleIn (a .rules .now)) (a .input .now) (a .table .now) (a .work .now) (a .x) (c .before .before .before .before .before .before .before .before .before .before .before .before .before .before .load .result) {r = success (c .before .before .before .before .before .before .before .before .before .before .before .before .before .before .load .result .0 - 5)} m (settled-before (subst (λ (u : ℕ). Settled n u (success (c .before .before .before .before .before .before .before .before .before .before .before .before .before .before .load .result .0 - 5))) (sym e) m)) (r .called) (b .called-cell) (c .before .before .resume2 .result) (c .before .before .resume2 .ensures)
+    let m = success-settled n k f (omega (arith, i .if2 .left)) (o .if3 .left) in
+    steps-resume (ruleIn (a .rules .now)) (a .input .now) (a .table .now) (a .work .now) (a .x) (l .load .result) {r = success (k - 5)} m (settled-before (subst (λ (u : ℕ). Settled n u (success (k - 5))) (sym e) m)) far (r .called) (b .called-cell) (c .before .before .resume2 .result) (c .before .before .resume2 .ensures)
 
 pub advance-spec : {M : Type 1} → statement M
 advance-spec =

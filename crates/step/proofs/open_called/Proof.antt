@@ -31,7 +31,7 @@ same-length-2 c = search needs
 returns : tie.Need-returns
 returns c =
     let a = c .before .before .before .before .before .before .before .before .args in
-    (c .before .before .before .store .ensures ∙ ap (λ (i : ℕ). stored (a .table .now) i openMark) (c .before .before .before .before .cell-number .ensures), ap (λ (k : ℕ). set (a .work .now) (a .x .depth) k) (c .pack .ensures))
+    (c .before .before .before .store .ensures ∙ ap (λ (i : ℕ). stored (a .table .now) i openMark 0) (c .before .before .before .before .cell-number .ensures), ap (λ (k : ℕ). set (a .work .now) (a .x .depth) k) (c .pack .ensures))
 
 pub open-called-spec : {M : Type 1} → statement M
 open-called-spec =

@@ -21,7 +21,7 @@ returns : tie.Need-returns
 returns c =
     let s = c .before .before .before .before .before .before in
     let a = s .before .before .before .before .before .args in
-    let e = s .store .ensures ∙ ap (λ (i : ℕ). stored (a .table .now) i (a .leaf .0)) (s .before .cell-number .ensures) in
+    let e = s .store .ensures ∙ ap (λ (i : ℕ). stored (a .table .now) i (a .leaf .0) (a .leaf .1)) (s .before .cell-number .ensures) in
     rw e at (c .before .before .resume .ensures)
 
 pub settle-leaf-spec : {M : Type 1} → statement M

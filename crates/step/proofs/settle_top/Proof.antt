@@ -1,13 +1,25 @@
-use mathlib.Core.Path.{refl, ap, _∙_}
-use Prim.Native.Nat.{ℕ}
 use native.Mathlib.Omega.{arith}
+use Rattle.step.proofs.Calls.{first-has, settles-top}
 use borrow.Author.Needs.{needs}
 use Rattle.step.proofs.settle_top.Statement.{statement}
 use Rattle.step.proofs.settle_top.Tie as tie
-use Rattle.schema.specs.Cells.{stored}
+
+first-of-requires : tie.Need-first-of-requires
+first-of-requires c κs = search needs
 
 cell-number-requires : tie.Need-cell-number-requires
 cell-number-requires c κs = search needs
+
+load-requires : tie.Need-load-requires
+load-requires c κs =
+    let st = c .before .before .before .before .before in
+    first-has (st .pre) (c .before .first-of .ensures) (c .cell-number .ensures)
+
+reaching-requires : tie.Need-reaching-requires
+reaching-requires c κs = search needs
+
+cell-number-requires-2 : tie.Need-cell-number-requires-2
+cell-number-requires-2 c κs = search needs
 
 store-requires : tie.Need-store-requires
 store-requires c κs = search needs
@@ -17,8 +29,14 @@ same-length c = search needs
 
 returns : tie.Need-returns
 returns c =
-    let a = c .before .before .before .before .before .before .before .before .before .args in
-    (c .before .before .before .before .store .ensures ∙ ap (λ (i : ℕ). stored (a .table .now) i (a .cell .0)) (c .before .before .before .before .before .cell-number .ensures), (refl, c .if1 .taken))
+    let o = c .before .before .before .before in
+    let st = o .before .before .before in
+    let l = st .before in
+    let n = l .before in
+    let f = n .before in
+    let a = f .before .before .before .before in
+    let stores = settles-top (a .pre) (f .first-of .ensures) (n .cell-number .ensures) (a .args .second) (st .reaching .result) (l .load .ensures .1) (st .reaching .ensures) (o .before .cell-number2 .ensures) (o .store .ensures) in
+    (stores, (st .reaching .ensures .0, c .if1 .taken))
 
 sub-depth : tie.Need-sub-depth
 sub-depth c = search needs
@@ -37,16 +55,26 @@ same-length-2 c = search needs
 
 returns-2 : tie.Need-returns-2
 returns-2 c =
-    let a = c .before .before .before .before .before .before .before .before .before .before .before .before .args in
+    let o = c .before .before .before .before .before .before .before in
+    let st = o .before .before .before in
+    let l = st .before in
+    let n = l .before in
+    let f = n .before in
+    let a = f .before .before .before .before in
+    let stores = settles-top (a .pre) (f .first-of .ensures) (n .cell-number .ensures) (a .args .second) (st .reaching .result) (l .load .ensures .1) (st .reaching .ensures) (o .before .cell-number2 .ensures) (o .store .ensures) in
     let e = c .caller-of .ensures in
     let d = e .4 in
-    (c .before .before .before .before .before .before .before .store .ensures ∙ ap (λ (i : ℕ). stored (a .table .now) i (a .cell .0)) (c .before .before .before .before .before .before .before .before .cell-number .ensures), record { depth-is = omega arith; variable-is = rw d (e .0); position-is = rw d (e .1); second-is = rw d (e .2); called-is = e .3 })
+    (stores, record { depth-is = omega (arith, c .before .before .before .if1 .left); variable-is = rw d (e .0); position-is = rw d (e .1); second-is = rw d (e .2); called-is = e .3 })
 
 pub settle-top-spec : {M : Type 1} → statement M
 settle-top-spec =
     tie.close
     (tie.spec
+    first-of-requires
     cell-number-requires
+    load-requires
+    reaching-requires
+    cell-number-requires-2
     store-requires
     same-length
     returns

@@ -1,8 +1,9 @@
 use mathlib.Core.Path.{refl, sym, _∙_, subst}
 use mathlib.Core.Logic.{inl}
-use Prim.Native.Nat.{ℕ, _-_, _<_}
+use Prim.Native.Nat.{_-_}
 use native.Mathlib.Omega.{arith}
 use lib.ListN.{length}
+use Rattle.schema.specs.Cells.{HasCell}
 use Rattle.schema.specs.Derivation.{_at_, success, failure}
 use Rattle.schema.proofs.Cell.{cell-below}
 use Rattle.step.proofs.Looking.{held-is, failure-settled, success-settled}
@@ -17,7 +18,7 @@ cell-number-requires c κs = search needs
 load-requires : tie.Need-load-requires
 load-requires c κs =
     let st = c .before .before .before .before .before in
-    subst (λ (i : ℕ). i < length (st .args .table .now)) (sym (c .cell-number .ensures)) (over-in (st .pre))
+    subst (HasCell (st .args .table .now)) (sym (c .cell-number .ensures)) (over-in (st .pre))
 
 same-length : tie.Need-same-length
 same-length c = search needs
@@ -28,7 +29,7 @@ returns c =
     let st = l .before .before .before .before .before .before in
     let a = st .args in
     let n = length (a .input .now) in
-    let e = held-is n (a .table .now) (a .variable at a .position) _ _ (l .load .ensures) (l .before .cell-number .ensures) in
+    let e = held-is n (a .table .now) (a .variable at a .position) _ _ (l .load .ensures .0) (l .before .cell-number .ensures) in
     over-settled (st .pre) failure (failure-settled n _ (e ∙ c .if1 .taken)) _ refl
 
 walk-over-requires : tie.Need-walk-over-requires
@@ -37,7 +38,7 @@ walk-over-requires c κs =
     let st = l .before .before .before .before .before .before in
     let a = st .args in
     let n = length (a .input .now) in
-    let e = held-is n (a .table .now) (a .variable at a .position) _ _ (l .load .ensures) (l .before .cell-number .ensures) in
+    let e = held-is n (a .table .now) (a .variable at a .position) _ _ (l .load .ensures .0) (l .before .cell-number .ensures) in
     (st .pre, rw e (record { no-failure = c .before .before .before .before .before .if1 .left; no-success = c .before .before .if2 .taken }))
 
 same-length-2 : tie.Need-same-length-2
@@ -62,7 +63,7 @@ returns-3 c =
     let a = st .args in
     let n = length (a .input .now) in
     let r = st .pre in
-    let e = held-is n (a .table .now) (a .variable at a .position) _ _ (l .load .ensures) (l .before .cell-number .ensures) in
+    let e = held-is n (a .table .now) (a .variable at a .position) _ _ (l .load .ensures .0) (l .before .cell-number .ensures) in
     let f = r .in-range _ (cell-below (a .variables) n (a .variable at a .position) (r .within)) in
     let s = r .short in
     over-settled r (success (l .load .result .0 - 5))

@@ -17,7 +17,7 @@ same-length c = search needs
 returns : tie.Need-returns
 returns c =
     let a = c .before .before .before .before .before .before .args in
-    (c .before .before .store .ensures ∙ ap (λ (i : ℕ). stored (a .table .now) i (a .leaf .0)) (c .before .before .before .cell-number .ensures), refl)
+    (c .before .before .store .ensures ∙ ap (λ (i : ℕ). stored (a .table .now) i (a .leaf .0) (a .leaf .1)) (c .before .before .before .cell-number .ensures), refl)
 
 pub settle-asked-spec : {M : Type 1} → statement M
 settle-asked-spec = tie.close (tie.spec cell-number-requires store-requires same-length returns)

@@ -1,13 +1,12 @@
 use mathlib.Core.Path.{sym, ap, _∙_, subst}
-use Prim.Native.Nat.{ℕ, _<_}
+use Prim.Native.Nat.{ℕ}
 use native.Mathlib.Omega.{arith}
-use lib.ListN.{length}
 use Rattle.step.specs.Codes.{openMark}
 use Rattle.walk.proofs.Overs.{over-in, over-may-walk, over-may-finish, over-small, over-answer}
 use borrow.Author.Needs.{needs}
 use Rattle.walk.proofs.walk_over.Statement.{statement}
 use Rattle.walk.proofs.walk_over.Tie as tie
-use Rattle.schema.specs.Cells.{stored}
+use Rattle.schema.specs.Cells.{stored, HasCell}
 
 newly-requires : tie.Need-newly-requires
 newly-requires c κs =
@@ -22,19 +21,19 @@ cell-number-requires c κs = search needs
 store-requires : tie.Need-store-requires
 store-requires c κs =
     let st = c .before .before .before .before .before .before .before in
-    subst (λ (i : ℕ). i < length (st .args .table .now)) (sym (c .cell-number .ensures)) (over-in (st .pre .0))
+    subst (HasCell (st .args .table .now)) (sym (c .cell-number .ensures)) (over-in (st .pre .0))
 
 walk-from-requires : tie.Need-walk-from-requires
 walk-from-requires c κs =
     let o = c .before .before .before .before in
     let st = c .before .before .before .before .before .before .before .before .before .before .before .before in
-    over-may-walk (st .pre .0) (st .pre .1) (o .store .ensures ∙ ap (λ (i : ℕ). stored (st .args .table .now) i openMark) (o .before .cell-number .ensures))
+    over-may-walk (st .pre .0) (st .pre .1) (o .store .ensures ∙ ap (λ (i : ℕ). stored (st .args .table .now) i openMark 0) (o .before .cell-number .ensures))
 
 add-finish : tie.Need-add-finish
 add-finish c =
     let o = c .before .before .before .before .before .before .before .before .before .before in
     let st = c .before .before .before .before .before .before .before .before .before .before .before .before .before .before .before .before .before .before in
-    let l = over-small (st .pre .0) (st .pre .1) (o .store .ensures ∙ ap (λ (i : ℕ). stored (st .args .table .now) i openMark) (o .before .cell-number .ensures)) _ (c .before .before .before .before .before .walk-from .result .count) _ (c .before .before .before .before .before .walk-from .ensures .1) (c .before .before .before .before .before .before .before .before .before .before .before .before .before .newly .ensures) in
+    let l = over-small (st .pre .0) (st .pre .1) (o .store .ensures ∙ ap (λ (i : ℕ). stored (st .args .table .now) i openMark 0) (o .before .cell-number .ensures)) _ (c .before .before .before .before .before .walk-from .result .count) _ (c .before .before .before .before .before .walk-from .ensures .1) (c .before .before .before .before .before .before .before .before .before .before .before .before .before .newly .ensures) in
     omega arith
 
 finish-requires : tie.Need-finish-requires
@@ -42,7 +41,7 @@ finish-requires c κs =
     let w = c .before .before .before .before .before .before .before in
     let o = c .before .before .before .before .before .before .before .before .before .before .before .before in
     let st = c .before .before .before .before .before .before .before .before .before .before .before .before .before .before .before .before .before .before .before .before in
-    over-may-finish (st .pre .0) (st .pre .1) (o .store .ensures ∙ ap (λ (i : ℕ). stored (st .args .table .now) i openMark) (o .before .cell-number .ensures)) (w .walk-from .result .end) (w .walk-from .ensures .0)
+    over-may-finish (st .pre .0) (st .pre .1) (o .store .ensures ∙ ap (λ (i : ℕ). stored (st .args .table .now) i openMark 0) (o .before .cell-number .ensures)) (w .walk-from .result .end) (w .walk-from .ensures .0)
 
 same-length : tie.Need-same-length
 same-length c = search needs
@@ -55,7 +54,7 @@ returns c =
     let w = c .before .before .before .before .before .before .before .before .before .before in
     let o = c .before .before .before .before .before .before .before .before .before .before .before .before .before .before .before in
     let st = c .before .before .before .before .before .before .before .before .before .before .before .before .before .before .before .before .before .before .before .before .before .before .before in
-    over-answer (st .pre .0) (st .pre .1) (o .store .ensures ∙ ap (λ (i : ℕ). stored (st .args .table .now) i openMark) (o .before .cell-number .ensures)) _ (w .walk-from .result .count) _ (w .walk-from .ensures .1) (c .before .before .before .before .before .before .before .before .before .before .before .before .before .before .before .before .before .before .newly .ensures) (c .before .before .finish .result) (w .walk-from .ensures .0) (c .before .before .finish .ensures)
+    over-answer (st .pre .0) (st .pre .1) (o .store .ensures ∙ ap (λ (i : ℕ). stored (st .args .table .now) i openMark 0) (o .before .cell-number .ensures)) _ (w .walk-from .result .count) _ (w .walk-from .ensures .1) (c .before .before .before .before .before .before .before .before .before .before .before .before .before .before .before .before .before .before .newly .ensures) (c .before .before .finish .result) (w .walk-from .ensures .0) (c .before .before .finish .ensures)
 
 pub walk-over-spec : {M : Type 1} → statement M
 walk-over-spec =

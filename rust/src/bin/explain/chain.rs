@@ -62,9 +62,9 @@ fn step(reader: &Reader, entry: &[u8], pair: Pair) -> Option<Step> {
     })
 }
 
-/// The cell of a pair.
+/// The outcome in the cell of a pair.
 fn cell(reader: &Reader, entry: &[u8], pair: Pair) -> Option<u32> {
     let row = words::index(pair.variable).checked_sub(1)?;
     let number = row * (entry.len() + 1) + words::index(pair.position);
-    reader.table().get(number).copied()
+    reader.table().get(2 * number).copied()
 }

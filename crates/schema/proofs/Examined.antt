@@ -1,0 +1,97 @@
+-- Every derivation has a reach, a pair has one at most, and it lies between the position and the end of the input. Assumes nothing.
+use mathlib.Core.Bool.{Bool, true, false, cond, true≢false}
+use mathlib.Core.List.{List}
+use mathlib.Core.Path.{_≡_, refl, sym, ap, ap₂}
+use Prim.Native.Nat.{ℕ, _+_, max, _≤_}
+use native.Mathlib.Omega.{arith}
+use lib.Dec.{ltb, eqb}
+use lib.ListN.{length, getD}
+use borrow.Author.Tests.{ltb-true}
+use Rattle.classes.specs.Class.{classOf}
+use Rattle.grammar.specs.Rule.{Rule, absent, always, never, byte, class, call}
+use Rattle.schema.specs.Derivation as derivation
+use Rattle.schema.specs.Derivation.{Pair, _at_, Result, success, failure, gives, calls, atEnd, actOf, act, second, Derives, Outcome, result, stopped, loop}
+use Rattle.schema.specs.Examined.{leafReach, leafReachOf, Examines, leaf, node, Reaches}
+use Rattle.schema.proofs.Ends.{positionOf, EndsWithin, derives-ends}
+
+byte-bound : (s : List ℕ) (p : ℕ) (r : Result) (b m : Bool) → ltb p (length s) ≡ b → cond b (cond m (gives (success (p + 1))) (gives failure)) atEnd ≡ gives r → p + 1 ≤ length s
+byte-bound s p r true m h e = let l = ltb-true p (length s) h in omega arith
+byte-bound s p r false m h e = absurd (true≢false (cc))
+
+leaf-bounds : (u : Rule) (s : List ℕ) (p : ℕ) (r : Result) → p ≤ length s → actOf u s p ≡ gives r → (p ≤ leafReach u p) × (leafReach u p ≤ length s)
+unfolding actOf
+leaf-bounds absent s p r l e = (omega arith, l)
+leaf-bounds always s p r l e = (omega arith, l)
+leaf-bounds never s p r l e = (omega arith, l)
+leaf-bounds (byte b) s p r l e = (omega arith, byte-bound s p r (ltb p (length s)) (eqb (getD s p 0) b) refl e)
+leaf-bounds (class k) s p r l e = (omega arith, byte-bound s p r (ltb p (length s)) (eqb (classOf (getD s p 0)) k) refl e)
+leaf-bounds (call B C D) s p r l e = (omega arith, l)
+
+-- A leaf that succeeds looks as far as it ends.
+byte-success : (p q : ℕ) (b m : Bool) → cond b (cond m (gives (success (p + 1))) (gives failure)) atEnd ≡ gives (success q) → p + 1 ≡ q
+byte-success p q true true e = cc
+byte-success p q true false e = absurd (true≢false (cc))
+byte-success p q false m e = absurd (true≢false (cc))
+
+pub success-reach : (u : Rule) (s : List ℕ) (p q : ℕ) → actOf u s p ≡ gives (success q) → q ≡ leafReach u p
+unfolding actOf
+success-reach absent s p q e = absurd (true≢false (cc))
+success-reach always s p q e = cc
+success-reach never s p q e = absurd (true≢false (cc))
+success-reach (byte b) s p q e = sym (byte-success p q (ltb p (length s)) (eqb (getD s p 0) b) e)
+success-reach (class k) s p q e = sym (byte-success p q (ltb p (length s)) (eqb (classOf (getD s p 0)) k) e)
+success-reach (call B C D) s p q e = absurd (true≢false (cc))
+
+second-place : (n C D p : ℕ) (t : Result) → p ≤ n → EndsWithin p n t → positionOf (second C D p t) ≤ n
+second-place n C D p (success q) l e = e .1
+second-place n C D p failure l e = l
+
+module _ (rule : ℕ → Rule) (s : List ℕ) where
+  -- Whatever has a reach is derived,
+  pub examines-derives : {x : Pair} {r : Result} {m : ℕ} → Examines rule s x r m → (k : ℕ) × (h : ℕ) × Derives rule s x r k h
+  examines-derives (leaf e) = (1, 1, derivation.leaf e)
+  examines-derives (node e i j) = let d = examines-derives i in let f = examines-derives j in (_, _, derivation.node e (d .2) (f .2))
+
+  -- and every derivation has a reach:
+  pub leaf-examines : (x : Pair) (r : Result) → act rule s x ≡ gives r → Examines rule s x r (leafReachOf rule x)
+  leaf-examines (A at p) r e = leaf e
+
+  pub derives-examines : {x : Pair} {r : Result} {k h : ℕ} → Derives rule s x r k h → (m : ℕ) × Examines rule s x r m
+  derives-examines (derivation.leaf {x = x} {r = r} e) = (leafReachOf rule x, leaf-examines x r e)
+  derives-examines (derivation.node e d f) = let i = derives-examines d in let j = derives-examines f in (max (i .0) (j .0), node e (i .1) (j .1))
+
+  -- one only.
+  same-examined : {x y : Pair} {r t : Result} {m n : ℕ} → x ≡ y → Examines rule s x r m → Examines rule s y t n → (r ≡ t) × (m ≡ n)
+  same-examined q (leaf e) (leaf f) = (cc, ap (leafReachOf rule) q)
+  same-examined q (leaf e) (node f i j) = absurd (true≢false (cc))
+  same-examined q (node e i j) (leaf f) = absurd (true≢false (cc))
+  same-examined q (node {A} {B} {C} {D} {p} {m} {n} {r} {t} e i j) (node {A = A′} {B = B′} {C = C′} {D = D′} {p = p′} {m = m′} {n = n′} {r = r′} {t = t′} f k l) =
+      let z : p ≡ p′ = cc in
+      let b : B ≡ B′ = cc in
+      let c : C ≡ C′ = cc in
+      let d : D ≡ D′ = cc in
+      let u = same-examined (ap₂ _at_ b z) i k in
+      let w : second C D p t ≡ second C′ D′ p′ t′ = rw (c, d, z, u .0) in
+      let v = same-examined w j l in
+      (v .0, ap₂ max (u .1) (v .1))
+
+  pub examines-one : {x : Pair} {r t : Result} {m n : ℕ} → Examines rule s x r m → Examines rule s x t n → m ≡ n
+  examines-one i j = same-examined refl i j .1
+
+  -- The reach of an outcome.
+  pub reaches-one : (x : Pair) (o : Outcome) (m n : ℕ) → Reaches rule s x o m → Reaches rule s x o n → m ≡ n
+  reaches-one x (result r) m n i j = examines-one i j
+  reaches-one x (stopped w) m n i j = omega arith
+  reaches-one x loop m n i j = omega arith
+
+  -- It lies between the position and n. (Order 11 lets a byte rule at the end reach n + 1.)
+  pub reach-bounds : {x : Pair} {r : Result} {m : ℕ} → positionOf x ≤ length s → Examines rule s x r m → (positionOf x ≤ m) × (m ≤ length s)
+  reach-bounds l (leaf {A} {p} {r} e) = leaf-bounds (rule A) s p r l e
+  reach-bounds l (node {A} {B} {C} {D} {p} {m} {n} {r} {t} e i j) =
+      let a = reach-bounds l i in
+      let d = examines-derives i in
+      let b = reach-bounds (second-place (length s) C D p t l (derives-ends rule s {x = B at p} {k = d .0} {h = d .1} l (d .2))) j in
+      let a₁ = a .0 in
+      let a₂ = a .1 in
+      let b₂ = b .1 in
+      (omega arith, omega arith)
