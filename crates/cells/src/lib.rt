@@ -9,15 +9,15 @@ ghost use Rattle.schema.specs.Derivation.{_at_};
 ghost use Rattle.schema.specs.Table.{cell};
 ghost use Rattle.cells.specs.Packed.{entry};
 
-// What a cell of the table holds: the number of an outcome (document 01: blank, failure, loop, missing, end, or success ending at a position),
-// and its reach (order 6), which is 0 but for success and failure.
+// What a cell of the table holds: the number of an outcome (document 01: blank, failure, loop, missing, end, or success ending at a position), and its
+// reach (document 02, order 6), 0 in what the calls store but for success and failure.
 pub struct Cell(pub u32, pub u32);
 
 impl Cell {
     // "0 for blank"; order 6: "both 0 when blank"
     pub const BLANK: Cell = Cell(0, 0);
 
-    // "1 for failure", at 0.
+    // "1 for failure", with reach 0.
     pub const FAILURE: Cell = Cell(1, 0);
 
     // "2 loop"
@@ -29,13 +29,13 @@ impl Cell {
     // "4 end"
     pub const END: Cell = Cell(4, 0);
 
-    // "5 + q for success ending at q", at 0.
+    // "5 + q for success ending at q", at 0, with reach 0.
     pub const SUCCESS: Cell = Cell(5, 0);
 
     // A pair that is asked and not decided yet, above every code.
     pub const OPEN: Cell = Cell(4294967295, 0);
 
-    // Success ending at a position.
+    // Success ending at a position, with its reach.
     pub fn success(end: u32, reach: u32) -> Cell
         requires { ⌜ end ≤ 4096 ⌝ }
         ensures { λ r. ⌜ (r .0 ≡ 5 + end) × (r .1 ≡ reach) ⌝ }
@@ -43,7 +43,7 @@ impl Cell {
         Cell(Cell::SUCCESS.0 + end, reach)
     }
 
-    // Failure.
+    // Failure, with its reach.
     pub fn failure(reach: u32) -> Cell
         ensures { λ r. ⌜ (r .0 ≡ 1) × (r .1 ≡ reach) ⌝ }
     {

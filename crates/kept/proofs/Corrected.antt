@@ -2,18 +2,17 @@
 -- only. Assumes nothing.
 use mathlib.Core.List.{List}
 use mathlib.Core.Logic.{_≢_}
-use mathlib.Core.Path.{_≡_, refl, sym, ap, _∙_, subst}
-use Prim.Native.Nat.{ℕ, max, _≤_, _<_}
+use mathlib.Core.Path.{_≡_, sym, ap, _∙_, subst}
+use Prim.Native.Nat.{ℕ, _≤_, _<_}
 use native.Mathlib.Omega.{arith}
 use lib.Dec.{ltb}
 use lib.ListN.{length}
 use Rattle.calls.proofs.Chain.{Calls, to-first, to-second}
-use Rattle.grammar.specs.Rule.{Rule, absent, always, never, byte, class, call}
-use Rattle.schema.specs.Derivation.{Pair, _at_, Result, success, failure, calls, actOf, act, second, Derives, Outcome, result, stopped, loop, Has}
-use Rattle.schema.specs.Examined.{leafReach, Examines, leaf, node, Reaches}
-use Rattle.schema.proofs.Closed.{calls-call}
+use Rattle.grammar.specs.Rule.{Rule}
+use Rattle.schema.specs.Derivation.{Pair, _at_, Result, success, failure, act, second, Derives, Outcome, result, stopped, loop, Has}
+use Rattle.schema.specs.Examined.{Examines, leaf, node, Reaches}
 use Rattle.schema.proofs.Ends.{positionOf, EndsWithin, derives-ends}
-use Rattle.schema.proofs.Examined.{examines-derives}
+use Rattle.schema.proofs.Examined.{examines-derives, examines-same}
 use Rattle.schema.proofs.System.{gts, kind-calls, first-is, second-is, from-done}
 use Rattle.schema.proofs.TwoInputs.{act-same, has-same}
 use Rattle.kept.specs.Differs.{DiffersAt}
@@ -52,7 +51,7 @@ module _ (rule : ℕ → Rule) (s s′ : List ℕ) (c : ℕ) (d : DiffersAt c s 
 
   -- Their reach too.
   right-examines : {x : Pair} {r : Result} {m : ℕ} → Right x → Examines rule s x r m → Examines rule s′ x r m
-  right-examines i (leaf {A} {p} e) = leaf (right-act (A at p) i ∙ e)
+  right-examines i (leaf {x} e) = leaf (right-act x i ∙ e)
   right-examines i (node {A} {B} {C} {D} {p} {m} {n} {r} {t} e h j) =
       let f = examines-derives rule s h in
       let b : Right (B at p) = record { above = i .above; inside = i .inside } in
@@ -64,27 +63,6 @@ module _ (rule : ℕ → Rule) (s s′ : List ℕ) (c : ℕ) (d : DiffersAt c s 
   right-reaches x (stopped w) m i h = h
   right-reaches x loop m i h = h
 
-  -- ---- A result whose reach is at most c.
-
-  leaf-reach-act : (u : Rule) (p : ℕ) → leafReach u p ≤ c → actOf u s′ p ≡ actOf u s p
-  unfolding actOf
-  leaf-reach-act absent p l = refl
-  leaf-reach-act always p l = refl
-  leaf-reach-act never p l = refl
-  leaf-reach-act (byte b) p l = act-same (byte b) s s′ p (d .same p (λ e. omega arith)) (ap (ltb p) (d .size))
-  leaf-reach-act (class k) p l = act-same (class k) s s′ p (d .same p (λ e. omega arith)) (ap (ltb p) (d .size))
-  leaf-reach-act (call B C D) p l = refl
-
-  -- A rule that calls does so on every input.
-  pub call-act : (A p B C D : ℕ) → act rule s′ (A at p) ≡ calls B C D → act rule s (A at p) ≡ calls B C D
-  unfolding actOf
-  call-act A p B C D e = ap (λ (u : Rule). actOf u s p) (calls-call (rule A) s′ p B C D e)
-
-  call-again : (A p B C D : ℕ) → act rule s (A at p) ≡ calls B C D → act rule s′ (A at p) ≡ calls B C D
-  unfolding actOf
-  call-again A p B C D e = ap (λ (u : Rule). actOf u s′ p) (calls-call (rule A) s p B C D e)
-
   -- "success and failure cells .. with reach at most c stay also": a derivation that looked at bytes before c only is one of the corrected entry.
   pub examined-before : {x : Pair} {r : Result} {m : ℕ} → m ≤ c → Examines rule s x r m → Examines rule s′ x r m
-  examined-before l (leaf {A} {p} e) = leaf (leaf-reach-act (rule A) p l ∙ e)
-  examined-before l (node {A} {B} {C} {D} {p} {m} {n} e i j) = node (call-again A p B C D e) (examined-before (omega arith) i) (examined-before (omega arith) j)
+  examined-before l = examines-same rule s s′ (λ p k. (d .same p (λ e. omega arith), ap (ltb p) (d .size)))

@@ -1,6 +1,6 @@
--- What is so of every kept table: each cell is blank or holds its pair's outcome and reach, and what a pair with a result calls has its result in it too.
--- Assumes nothing.
-use mathlib.Core.Bool.{Bool, true, false, not, _&&_, _||_, true≢false}
+-- What is so of every kept table: each cell is blank, both numbers 0, or holds its pair's outcome and reach, and what a pair with a result calls has its
+-- result in it too. Assumes nothing.
+use mathlib.Core.Bool.{Bool, true, false, cond, not, _&&_, _||_, true≢false}
 use mathlib.Core.List.{List}
 use mathlib.Core.Logic.{_⊎_, inl, inr, _≢_}
 use mathlib.Core.Path.{_≡_, refl, sym, ap, _∙_, subst}
@@ -15,17 +15,17 @@ use Rattle.schema.specs.Closed.{Closed}
 use Rattle.schema.specs.Derivation.{Pair, _at_, Result, success, failure, missing, end, calls, act, second, Outcome, result, stopped, loop, Has}
 use Rattle.schema.specs.Examined.{Examines, node, Reaches}
 use Rattle.schema.specs.Reached.{Reached, first-of, second-of}
-use Rattle.schema.specs.Table.{Within, code, held, reach, contents, Holds, Table}
+use Rattle.schema.specs.Table.{Within, code, held, reach, contents, blanked, Holds, Table}
 use Rattle.schema.proofs.Cell.{PairWithin}
 use Rattle.schema.proofs.Closed.{calls-call, second-within}
 use Rattle.schema.proofs.Codes.{code-full}
 use Rattle.schema.proofs.Ends.{positionOf, ends-in, derives-ends}
-use Rattle.schema.proofs.Examined.{examines-derives, examines-one}
+use Rattle.schema.proofs.Examined.{examines-derives, examines-one, call-act}
 use Rattle.schema.proofs.Laws.{has-one}
 use Rattle.schema.proofs.Parts.{parts}
 use Rattle.kept.specs.Differs.{DiffersAt}
 use Rattle.kept.specs.Kept.{isResult, stays, retained, KeptTable, asked, corrected}
-use Rattle.kept.proofs.Corrected.{Right, right-second, right-has, right-reaches, call-act, examined-before}
+use Rattle.kept.proofs.Corrected.{Right, right-second, right-has, right-reaches, examined-before}
 
 -- The code of a result is that of no other outcome.
 result-code : (o : Outcome) (r : Result) → code o ≡ code (result r) → o ≡ result r
@@ -47,6 +47,11 @@ is-result (stopped missing) e = absurd (true≢false (sym e))
 is-result (stopped end) e = absurd (true≢false (sym e))
 is-result loop e = absurd (true≢false (sym e))
 
+-- What is blank where it stays, and blanked where it does not, is blank.
+kept-blank : (b : Bool) (k : ℕ × ℕ) → (k .0 ≡ 0 → k .1 ≡ 0) → cond b k (0, 0) .0 ≡ 0 → cond b k (0, 0) .1 ≡ 0
+kept-blank true k h e = h e
+kept-blank false k h e = refl
+
 or-true : (b : Bool) → (b || true) ≡ true
 or-true true = refl
 or-true false = refl
@@ -58,6 +63,7 @@ module _ (rule : ℕ → Rule) (v : ℕ) where
         → (o : Outcome) × Has rule s (A at p) o × (H (A at p) .0 ≡ code o) × Reaches rule s (A at p) o (H (A at p) .1)
     pub whole : (A B C D p : ℕ) (r : Result) → Within v (length s) A p → H (A at p) .0 ≡ code (result r) → act rule s (A at p) ≡ calls B C D
         → (t : Result) × (H (B at p) .0 ≡ code (result t)) × (H (second C D p t) .0 ≡ code (result r))
+    pub blank : (A p : ℕ) → Within v (length s) A p → H (A at p) .0 ≡ 0 → H (A at p) .1 ≡ 0
 
   module _ (closed : Closed v rule) where
     module _ (s : List ℕ) where
@@ -83,10 +89,11 @@ module _ (rule : ℕ → Rule) (v : ℕ) where
             second-within v (length s) C D p t (c .1) (c .2) (w .position) (ends-in p (length s) t (derives-ends rule s (w .position) (h .2)))
 
       -- Blank cells are right,
-      blank-right : {H : Pair → ℕ × ℕ} → ((y : Pair) → H y .0 ≡ 0) → RightCells s H
-      blank-right z = record {
-        right = λ A p w d. absurd (d (z (A at p)));
-        whole = λ A B C D p r w e a. absurd (code-full (result r) (sym e ∙ z (A at p)));
+      blank-right : RightCells s blanked
+      blank-right = record {
+        right = λ A p w d. absurd (d refl);
+        whole = λ A B C D p r w e a. absurd (code-full (result r) (sym e));
+        blank = λ A p w z. refl;
       }
 
       -- and so are cells that hold what right ones hold.
@@ -101,6 +108,7 @@ module _ (rule : ℕ → Rule) (v : ℕ) where
             let b = first-in w a in
             let i = second-in w a (k .0) (held-has (B at p) (k .0) h b (k .1)) in
             (k .0, same (B at p) b .0 ∙ k .1, same (second C D p (k .0)) i .0 ∙ k .2);
+        blank = λ A p w z. let e = same (A at p) w in e .1 ∙ h .blank A p w (sym (e .0) ∙ z);
       }
 
       -- ---- A question over right cells leaves right cells.
@@ -144,8 +152,21 @@ module _ (rule : ℕ → Rule) (v : ℕ) where
               )
         ]
 
+        -- A blank cell is none of a reached pair: both its numbers are as before.
+        not-reached : (A p : ℕ) → held (length s) T (A at p) ≡ 0 → Reached rule s x (A at p) → ⊥
+        not-reached A p z i = let k = leaves .holds (A at p) i in code-full (k .0) (sym (k .2) ∙ z)
+
+        blank-after : (A p : ℕ) → Within v (length s) A p → held (length s) T (A at p) ≡ 0 → reach (length s) T (A at p) ≡ 0
+        blank-after A p w z = elim (ℕ-discrete (reach (length s) T (A at p)) (start (A at p) .1)) [
+          | yes f ↦ elim (ℕ-discrete (held (length s) T (A at p)) (start (A at p) .0)) [
+            | yes g ↦ f ∙ before .blank A p w (sym g ∙ z)
+            | no d ↦ absurd (not-reached A p z (leaves .others A p w d))
+          ]
+          | no d ↦ absurd (not-reached A p z (leaves .others-reach A p w d))
+        ]
+
         pub ask-right : RightCells s (contents (length s) T)
-        ask-right = record { right = right-after; whole = whole-after }
+        ask-right = record { right = right-after; whole = whole-after; blank = blank-after }
 
     -- ---- What a correction retains of right cells is right on the corrected entry.
 
@@ -231,7 +252,7 @@ module _ (rule : ℕ → Rule) (v : ℕ) where
             stay = retained-stays A p (λ z. code-full (result q) (sym e ∙ z))
 
             b : act rule s (A at p) ≡ calls B C D
-            b = call-act rule s s′ c d A p B C D a
+            b = call-act rule s′ s A p B C D a
 
             u : Within v (length s) A p
             u = within-old w
@@ -258,10 +279,14 @@ module _ (rule : ℕ → Rule) (v : ℕ) where
                 let n = l .1 in
                 (h .0, before-is (B at p) (h .0) (h .1) (omega arith), before-is (second C D p (h .0)) q (h .2) (omega arith))
 
+        blank-retained : (A p : ℕ) → Within v (length s′) A p → retained c (length s′) O (A at p) .0 ≡ 0 → retained c (length s′) O (A at p) .1 ≡ 0
+        blank-retained A p w =
+            rw (d .size) (kept-blank (stays c p (contents (length s) O (A at p))) (contents (length s) O (A at p)) (r .blank A p (within-old w)))
+
         pub retain-right : RightCells s′ (retained c (length s′) O)
-        retain-right = record { right = right-retained; whole = whole-retained }
+        retain-right = record { right = right-retained; whole = whole-retained; blank = blank-retained }
 
     -- Every kept table is right.
     pub kept-right : {s T : List ℕ} → KeptTable rule v s T → RightCells s (contents (length s) T)
-    kept-right {s} (asked w t) = ask-right s (blank-right s (λ y. refl)) t
+    kept-right {s} (asked w t) = ask-right s (blank-right s) t
     kept-right (corrected {s = s} {s′ = s′} {O = O} {c = c} w k d t) = ask-right s′ (retain-right s s′ c d O (kept-right k)) t

@@ -2,6 +2,7 @@
 use mathlib.Core.Path.{_≡_, refl, sym, ap, _∙_, subst}
 use mathlib.Core.Bool.{Bool, true, false}
 use mathlib.Core.List.{List}
+use mathlib.Core.Logic.{_≢_}
 use Prim.Native.Nat.{ℕ, _+_, _-_, _*_, _/_, _%_, _<_}
 use native.Mathlib.Decide.{ℕ-discrete}
 use native.Mathlib.Omega.{arith}
@@ -18,6 +19,16 @@ use Rattle.schema.specs.Table.{cells, code, held, reach, Table}
 use Rattle.schema.proofs.Cell.{pairOf, held-pair, reach-pair, pair-within}
 use Rattle.schema.proofs.Examined.{reaches-one}
 use Rattle.schema.proofs.Laws.{has-one}
+
+-- Two numbers are the same if they are where one of them is not a third.
+same-unless : {a b c : ℕ} → (a ≢ c → a ≡ b) → (b ≢ c → a ≡ b) → a ≡ b
+same-unless {a} {b} {c} f g = elim (ℕ-discrete a c) [
+  | yes e ↦ elim (ℕ-discrete b c) [
+    | yes h ↦ e ∙ sym h
+    | no d ↦ g d
+  ]
+  | no d ↦ f d
+]
 
 module _ {rule : ℕ → Rule} {s : List ℕ} {v : ℕ} {x : Pair} {start : Pair → ℕ × ℕ} {O P T U : List ℕ} (t : Table rule s v x start O T) (u : Table rule s v x start P U) where
   abbrev n : ℕ
@@ -36,32 +47,16 @@ module _ {rule : ℕ → Rule} {s : List ℕ} {v : ℕ} {x : Pair} {start : Pair
       )
 
   held-same : (i : ℕ) → i < N → heldAt T i ≡ heldAt U i
-  held-same i l = sym (held-pair n T i) ∙ within-same ∙ held-pair n U i
-    where
-      within-same : held n T (pairOf n i) ≡ held n U (pairOf n i)
-      within-same =
-          let w = pair-within v n i l in
-          elim (ℕ-discrete (held n T (pairOf n i)) (start (pairOf n i) .0)) [
-            | yes e ↦ elim (ℕ-discrete (held n U (pairOf n i)) (start (pairOf n i) .0)) [
-              | yes f ↦ e ∙ sym f
-              | no d ↦ reached-same (pairOf n i) (u .others _ _ w d) .0
-            ]
-            | no d ↦ reached-same (pairOf n i) (t .others _ _ w d) .0
-          ]
+  held-same i l =
+      let w = pair-within v n i l in
+      let y = pairOf n i in
+      sym (held-pair n T i) ∙ same-unless (λ d. reached-same y (t .others _ _ w d) .0) (λ d. reached-same y (u .others _ _ w d) .0) ∙ held-pair n U i
 
   reach-same : (i : ℕ) → i < N → reachAt T i ≡ reachAt U i
-  reach-same i l = sym (reach-pair n T i) ∙ within-same ∙ reach-pair n U i
-    where
-      within-same : reach n T (pairOf n i) ≡ reach n U (pairOf n i)
-      within-same =
-          let w = pair-within v n i l in
-          elim (ℕ-discrete (reach n T (pairOf n i)) (start (pairOf n i) .1)) [
-            | yes e ↦ elim (ℕ-discrete (reach n U (pairOf n i)) (start (pairOf n i) .1)) [
-              | yes f ↦ e ∙ sym f
-              | no d ↦ reached-same (pairOf n i) (u .others-reach _ _ w d) .1
-            ]
-            | no d ↦ reached-same (pairOf n i) (t .others-reach _ _ w d) .1
-          ]
+  reach-same i l =
+      let w = pair-within v n i l in
+      let y = pairOf n i in
+      sym (reach-pair n T i) ∙ same-unless (λ d. reached-same y (t .others-reach _ _ w d) .1) (λ d. reached-same y (u .others-reach _ _ w d) .1) ∙ reach-pair n U i
 
   -- A number of the table is the first or the second of a cell.
   number-same : (j : ℕ) → j < 2 * N → getD T j 0 ≡ getD U j 0

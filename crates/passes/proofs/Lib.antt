@@ -1,2 +1,4 @@
 -- Why the passes do what they promise.
-pub mod Passing
+pub mod Rows
+pub mod Looking
+pub mod Blanking

@@ -4,7 +4,7 @@ use mathlib.Core.List.{List}
 use mathlib.Core.Logic.{_⊎_}
 use mathlib.Core.Path.{_≡_}
 use Prim.Native.Nat.{ℕ, _+_, _*_, _≤_, _<_}
-use lib.ListN.{length, drop}
+use lib.ListN.{length, getD, drop}
 use Rattle.schema.specs.Cells.{cellAt}
 use Rattle.schema.specs.Derivation.{_at_}
 use Rattle.schema.specs.Table.{Within, cells, contents}
@@ -18,9 +18,35 @@ pub record PassReady (v n c : ℕ) (T : List ℕ) : Type 0 where
   pub below : c < n
   pub room : 2 * cells v n ≤ length T
 
+-- Where a test says so, so many cells from the number `start` on are blank.
+abbrev pub BlankIf : Bool → List ℕ → ℕ → ℕ → Type 0
+BlankIf true T start count = (i : ℕ) → i < count → cellAt T (start + i) ≡ (0, 0)
+BlankIf false T start count = Unit {0}
+
 -- A retained cell is out of range, among so many from the number `start` on.
 abbrev pub rowOut : ℕ → ℕ → List ℕ → ℕ → ℕ → Bool
 rowOut n c T start count = some count (λ p. outOfRange n p (kept c p (cellAt T (start + p))))
+
+-- In a row that begins at the number `start` every cell before the position `first` holds what is retained.
+abbrev pub Unchanged : ℕ → List ℕ → ℕ → ℕ → Type 0
+Unchanged c T start first = (p : ℕ) → p < first → kept c p (cellAt T (start + p)) ≡ cellAt T (start + p)
+
+-- What is found in so many cells of a row that begins at the number `start`: whether a retained one is out of range, and a position up to c + 1 before
+-- which every one of them holds what is retained.
+pub record Looked (n c : ℕ) (T : List ℕ) (start count : ℕ) (out : Bool) (first : ℕ) : Type 0 where
+  pub says : out ≡ rowOut n c T start count
+  pub low : first ≤ c + 1
+  pub unchanged : (p : ℕ) → p < count → p < first → kept c p (cellAt T (start + p)) ≡ cellAt T (start + p)
+
+-- Such a position for each of v rows.
+pub record Firsts (v n c : ℕ) (T firsts : List ℕ) : Type 0 where
+  pub low : (i : ℕ) → i < v → getD firsts i 0 ≤ c + 1
+  pub unchanged : (i : ℕ) → i < v → Unchanged c T (cells i n) (getD firsts i 0)
+
+-- They are noted where no retained cell is out of range.
+abbrev pub FirstsUnless : Bool → ℕ → ℕ → ℕ → List ℕ → List ℕ → Type 0
+FirstsUnless true v n c T firsts = Unit {0}
+FirstsUnless false v n c T firsts = Firsts v n c T firsts
 
 -- So many cells of a row that begins at the number `start` hold what is retained, and no other cell is changed.
 pub record Keeps (c start count : ℕ) (T T′ : List ℕ) : Type 0 where

@@ -1,19 +1,41 @@
 // What a correction does to the cells of a table before it asks, in two passes, row by row: whether a retained cell is out of range, and blanking what
-// does not stay.
-ghost use mathlib.Core.Bool.{cond};
+// does not stay. On sheets as societies write them nearly all cells are blank: the first pass skips them in blocks, and notes for each row from where on
+// the second has something to blank.
+ghost use mathlib.Core.Bool.{cond, _&&_};
 ghost use mathlib.Core.Path.{_≡_};
 ghost use Prim.Native.Nat.{_+_, _≤_, _<_};
+ghost use lib.Dec.{eqb};
+ghost use lib.ListN.{length};
 ghost use Rattle.schema.specs.Cells.{cellAt, stored, HasCell};
 ghost use Rattle.kept.specs.Kept.{isResult, looksBefore};
 ghost use Rattle.kept.specs.Range.{outOfRange, retainedOut};
-ghost use Rattle.passes.specs.Passes.{PassReady, rowOut, Keeps, Retains, RetainsUnless};
+ghost use Rattle.passes.specs.Passes.{PassReady, BlankIf, Looked, FirstsUnless, Firsts, Unchanged, Keeps, Retains, RetainsUnless};
 use cells::Cell;
+
+// How many cells are skipped at once.
+const BLOCK: usize = 16;
+
+// For each row, a position before which the second pass has nothing to blank.
+type FirstPositions = [u32; 256];
+
+// What is found in a row: whether a retained cell is out of range, and a position before which nothing is blanked.
+struct Row {
+    out: bool,
+    first: usize,
+}
 
 // Is this the number of a success or a failure?
 fn is_result(cell: Cell) -> bool
     ensures { λ r. ⌜ r ≡ isResult (cell .0) ⌝ }
 {
     (cell.0 == Cell::FAILURE.0) | !(cell.0 < Cell::SUCCESS.0)
+}
+
+// Are both numbers 0?
+fn is_blank(cell: Cell) -> bool
+    ensures { λ r. ⌜ r ≡ (eqb (cell .0) 0 && eqb (cell .1) 0) ⌝ }
+{
+    (cell.0 == Cell::BLANK.0) & (cell.1 == Cell::BLANK.1)
 }
 
 // Does this cell hold a result that looked at bytes before c only?
@@ -23,8 +45,7 @@ fn looks_before(cell: Cell, c: u32) -> bool
     is_result(cell) & !(c < cell.1)
 }
 
-// Is what a cell at a position holds over 5 + n, or that of a success ending left of it, or that of a result that reaches less than it? There is no
-// branch.
+// Is what a cell at a position holds over 5 + n, or that of a success ending left of it, or that of a result that reaches less than it?
 fn out_of_range(cell: Cell, position: u32, n: u32) -> bool
     requires { ⌜ (n ≤ 4096) × (position ≤ n) ⌝ }
     ensures { λ r. ⌜ r ≡ outOfRange n position (cell .0, cell .1) ⌝ }
@@ -34,47 +55,84 @@ fn out_of_range(cell: Cell, position: u32, n: u32) -> bool
     end_out | (is_result(cell) & (cell.1 < position))
 }
 
-// The same of some retained cell among those of one variable at positions up to c; they begin at a number.
-fn early_out(table: &[u32], start: usize, n: usize, c: usize) -> bool
-    requires { ⌜ (n ≤ 4096) × (c < n) × HasCell (now table) (start + n) ⌝ }
-    ensures { λ r. ⌜ r ≡ rowOut n c (now (table .entry)) start (c + 1) ⌝ }
+// Are all cells of a block blank? It begins at a number.
+fn block_blank(table: &[u32], start: usize) -> bool
+    requires { ⌜ HasCell (now table) (start + 15) ⌝ }
+    ensures { λ r. ⌜ BlankIf r (now (table .entry)) start 16 ⌝ }
 {
-    let mut out = false;
-    let mut position: usize = 0;
-    while position <= c {
-        let cell = Cell::load(table, start + position);
-        out = out | (looks_before(cell, c as u32) & out_of_range(cell, position as u32, n as u32));
-        position += 1;
+    let mut blank = true;
+    let mut i: usize = 0;
+    while i < BLOCK {
+        blank = blank & is_blank(Cell::load(table, start + i));
+        i += 1;
     }
-    out
+    blank
 }
 
-// The same at all positions.
-fn row_out(table: &[u32], start: usize, n: usize, c: usize) -> bool
-    requires { ⌜ (n ≤ 4096) × (c < n) × HasCell (now table) (start + n) ⌝ }
-    ensures { λ r. ⌜ r ≡ rowOut n c (now (table .entry)) start (n + 1) ⌝ }
+// Looks at the cells of a row from one position to another, with what was found before them. The row begins at a number. There is no branch in the loop,
+// so that the compiler tests several cells at once.
+fn look(table: &[u32], start: usize, from: usize, to: usize, n: usize, c: usize, before: Row) -> Row
+    requires { ⌜ (n ≤ 4096) × (c < n) × (from ≤ to) × (to ≤ n + 1) × HasCell (now table) (start + n) × Looked n c (now table) start from (before .out) (before .first) ⌝ }
+    ensures { λ r. ⌜ Looked n c (now (table .entry)) start to (r .out) (r .first) ⌝ }
 {
-    let mut out = early_out(table, start, n, c);
-    let mut position = c + 1;
-    while position <= n {
+    let mut out = before.out;
+    let mut changes = false;
+    let mut position = from;
+    while position < to {
         let cell = Cell::load(table, start + position);
-        out = out | out_of_range(cell, position as u32, n as u32);
+        let stays = ((c as u32) < position as u32) | looks_before(cell, c as u32);
+        out = out | (stays & out_of_range(cell, position as u32, n as u32));
+        changes = changes | (!stays & !is_blank(cell));
         position += 1;
     }
-    out
+    if changes & (from < before.first) {
+        return Row { out, first: from };
+    }
+    Row {
+        out,
+        first: before.first,
+    }
 }
 
-// Refusal 19: is a retained cell of the table out of range?
-fn retained_out(table: &[u32], variables: u32, n: usize, c: usize) -> bool
-    requires { ⌜ PassReady variables n c (now table) ⌝ }
-    ensures { λ r. ⌜ r ≡ retainedOut variables n c (now (table .entry)) ⌝ }
+// Looks at a row, which begins at a number.
+fn look_row(table: &[u32], start: usize, n: usize, c: usize) -> Row
+    requires { ⌜ (n ≤ 4096) × (c < n) × HasCell (now table) (start + n) ⌝ }
+    ensures { λ r. ⌜ Looked n c (now (table .entry)) start (n + 1) (r .out) (r .first) ⌝ }
+{
+    let mut row = Row {
+        out: false,
+        first: c + 1,
+    };
+    let mut at: usize = 0;
+    while at + BLOCK <= n + 1 {
+        if !block_blank(table, start + at) {
+            row = look(table, start, at, at + BLOCK, n, c, row);
+        }
+        at += BLOCK;
+    }
+    look(table, start, at, n + 1, n, c, row)
+}
+
+// Refusal 19: is a retained cell of the table out of range? If none is, each row's first position is noted.
+fn retained_out(
+    table: &[u32],
+    variables: u32,
+    n: usize,
+    c: usize,
+    firsts: &mut FirstPositions,
+) -> bool
+    requires { ⌜ PassReady variables n c (now table) × (length (now firsts) ≡ 256) ⌝ }
+    ensures refuses { λ r. ⌜ r ≡ retainedOut variables n c (now (table .entry)) ⌝ }
+    ensures notes { λ r. ⌜ FirstsUnless r variables n c (now (table .entry)) (now (firsts .exit)) ⌝ }
 {
     let mut row: u32 = 0;
     let mut start: usize = 0;
     while row < variables {
-        if row_out(table, start, n, c) {
+        let found = look_row(table, start, n, c);
+        if found.out {
             return true;
         }
+        firsts[row as usize] = found.first as u32;
         start += n + 1;
         row += 1;
     }
@@ -91,8 +149,8 @@ fn kept_cell(cell: Cell, c: u32) -> Cell
     Cell::BLANK
 }
 
-// Blanks a cell, unless it holds a result that looked at bytes before c only. It is stored again in any case: without a branch a row of cells is gone
-// through several at once.
+// Blanks a cell, unless it holds a result that looked at bytes before c only. It is stored again in any case: of the choice between the two the compiler
+// then makes no branch, and goes through a row several cells at once.
 fn retain_cell(table: &mut [u32], index: usize, c: u32)
     requires { ⌜ HasCell (now table) index ⌝ }
     ensures { λ _. let k = cellAt (now (table .entry)) index in ⌜ now (table .exit) ≡ stored (now (table .entry)) index (cond (looksBefore c k) (k .0) 0) (cond (looksBefore c k) (k .1) 0) ⌝ }
@@ -100,12 +158,12 @@ fn retain_cell(table: &mut [u32], index: usize, c: u32)
     kept_cell(Cell::load(table, index), c).store(table, index);
 }
 
-// The cells of one variable at positions up to c, which begin at a number.
-fn retain_row(table: &mut [u32], start: usize, c: usize)
-    requires { ⌜ (c ≤ 4096) × HasCell (now table) (start + c) ⌝ }
+// The cells of a row, which begins at a number, at positions from the first that may change up to c.
+fn retain_row(table: &mut [u32], start: usize, first: usize, c: usize)
+    requires { ⌜ (c ≤ 4096) × (first ≤ c + 1) × HasCell (now table) (start + c) × Unchanged c (now table) start first ⌝ }
     ensures { λ _. ⌜ Keeps c start (c + 1) (now (table .entry)) (now (table .exit)) ⌝ }
 {
-    let mut at: usize = 0;
+    let mut at = first;
     while at <= c {
         retain_cell(table, start + at, c as u32);
         at += 1;
@@ -113,14 +171,15 @@ fn retain_row(table: &mut [u32], start: usize, c: usize)
 }
 
 // Blanks the cells that do not stay, and leaves the others.
-fn retain_rows(table: &mut [u32], variables: u32, n: usize, c: usize)
-    requires { ⌜ PassReady variables n c (now table) ⌝ }
+fn retain_rows(table: &mut [u32], variables: u32, n: usize, c: usize, firsts: &FirstPositions)
+    requires { ⌜ PassReady variables n c (now table) × Firsts variables n c (now table) (now firsts) ⌝ }
     ensures { λ _. ⌜ Retains variables n c (now (table .entry)) (now (table .exit)) ⌝ }
 {
     let mut retained: u32 = 0;
     let mut start: usize = 0;
     while retained < variables {
-        retain_row(table, start, c);
+        let first = firsts[retained as usize] as usize;
+        retain_row(table, start, first, c);
         start += n + 1;
         retained += 1;
     }
@@ -133,9 +192,10 @@ pub fn retain(table: &mut [u32], variables: u32, n: usize, c: usize) -> bool
     ensures refuses { λ r. ⌜ r ≡ retainedOut variables n c (now (table .entry)) ⌝ }
     ensures retains { λ r. ⌜ RetainsUnless r variables n c (now (table .entry)) (now (table .exit)) ⌝ }
 {
-    let out = retained_out(table, variables, n, c);
+    let mut firsts: FirstPositions = [0u32; 256];
+    let out = retained_out(table, variables, n, c, &mut firsts);
     if !out {
-        retain_rows(table, variables, n, c);
+        retain_rows(table, variables, n, c, &firsts);
     }
     out
 }

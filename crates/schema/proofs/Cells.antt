@@ -1,11 +1,11 @@
 -- The laws of a stored cell: all that the proofs above know of how a list holds a table. Assumes nothing.
 use mathlib.Core.List.{List}
 use mathlib.Core.Logic.{_≢_}
-use mathlib.Core.Path.{_≡_, ap, ap₂, _∙_}
+use mathlib.Core.Path.{_≡_, sym, ap, ap₂, _∙_, subst}
 use Prim.Native.Nat.{ℕ, _+_, _*_, _<_}
 use native.Mathlib.Omega.{arith}
-use lib.ListN.{length, set, drop, length-set}
-use lib.Seq.{getD-set-same, getD-set-other, drop-set-lt, set-set, set-comm, lt-length-set}
+use lib.ListN.{length, getD, set, drop, length-set}
+use lib.Seq.{getD-set-same, getD-set-other, getD-drop, drop-set-lt, set-set, set-comm, lt-length-set}
 use Rattle.calls.proofs.Table.{Mark, Put}
 use Rattle.schema.specs.Cells.{heldAt, reachAt, cellAt, stored, HasCell}
 
@@ -46,6 +46,16 @@ stored-later N T i c m l = drop-set-lt (2 * N) (set T (2 * i) c) (2 * i + 1) m (
 pub stored-length : (T : List ℕ) (i c m : ℕ) → length (stored T i c m) ≡ length T
 unfolding stored
 stored-length T i c m = length-set (set T (2 * i) c) (2 * i + 1) m ∙ length-set T (2 * i) c
+
+-- Where two tables are the same from the cell of a number on, each cell there is the same.
+pub cell-later : (N : ℕ) (T U : List ℕ) → drop (2 * N) T ≡ drop (2 * N) U → (p : ℕ) → cellAt T (N + p) ≡ cellAt U (N + p)
+cell-later N T U e p =
+    let f : 2 * N + 2 * p ≡ 2 * (N + p) = omega arith in
+    let g : 2 * N + (2 * p + 1) ≡ 2 * (N + p) + 1 = omega arith in
+    ap₂ (λ (a b : ℕ). (a, b)) (subst (λ (k : ℕ). getD T k 0 ≡ getD U k 0) f (number (2 * p))) (subst (λ (k : ℕ). getD T k 0 ≡ getD U k 0) g (number (2 * p + 1)))
+  where
+    number : (j : ℕ) → getD T (2 * N + j) 0 ≡ getD U (2 * N + j) 0
+    number j = sym (getD-drop (2 * N) T j 0) ∙ ap (λ (W : List ℕ). getD W j 0) e ∙ getD-drop (2 * N) U j 0
 
 -- Stored twice, the later holds.
 pub stored-twice : (T : List ℕ) (i c k d m : ℕ) → stored (stored T i c k) i d m ≡ stored T i d m

@@ -1,8 +1,9 @@
--- Every derivation has a reach, a pair has one at most, and it lies between the position and the end of the input. Assumes nothing.
+-- Every derivation has a reach, a pair has one at most, it lies between the position and the end of the input, and a result depends on the bytes
+-- before it only. Assumes nothing.
 use mathlib.Core.Bool.{Bool, true, false, cond, true≢false}
 use mathlib.Core.List.{List}
-use mathlib.Core.Path.{_≡_, refl, sym, ap, ap₂}
-use Prim.Native.Nat.{ℕ, _+_, max, _≤_}
+use mathlib.Core.Path.{_≡_, refl, sym, ap, ap₂, _∙_}
+use Prim.Native.Nat.{ℕ, _+_, max, _≤_, _<_}
 use native.Mathlib.Omega.{arith}
 use lib.Dec.{ltb, eqb}
 use lib.ListN.{length, getD}
@@ -12,20 +13,22 @@ use Rattle.grammar.specs.Rule.{Rule, absent, always, never, byte, class, call}
 use Rattle.schema.specs.Derivation as derivation
 use Rattle.schema.specs.Derivation.{Pair, _at_, Result, success, failure, gives, calls, atEnd, actOf, act, second, Derives, Outcome, result, stopped, loop}
 use Rattle.schema.specs.Examined.{leafReach, leafReachOf, Examines, leaf, node, Reaches}
+use Rattle.schema.proofs.Closed.{calls-call}
 use Rattle.schema.proofs.Ends.{positionOf, EndsWithin, derives-ends}
+use Rattle.schema.proofs.TwoInputs.{act-same}
 
 byte-bound : (s : List ℕ) (p : ℕ) (r : Result) (b m : Bool) → ltb p (length s) ≡ b → cond b (cond m (gives (success (p + 1))) (gives failure)) atEnd ≡ gives r → p + 1 ≤ length s
 byte-bound s p r true m h e = let l = ltb-true p (length s) h in omega arith
 byte-bound s p r false m h e = absurd (true≢false (cc))
 
-leaf-bounds : (u : Rule) (s : List ℕ) (p : ℕ) (r : Result) → p ≤ length s → actOf u s p ≡ gives r → (p ≤ leafReach u p) × (leafReach u p ≤ length s)
+rule-bounds : (u : Rule) (s : List ℕ) (p : ℕ) (r : Result) → p ≤ length s → actOf u s p ≡ gives r → (p ≤ leafReach u p) × (leafReach u p ≤ length s)
 unfolding actOf
-leaf-bounds absent s p r l e = (omega arith, l)
-leaf-bounds always s p r l e = (omega arith, l)
-leaf-bounds never s p r l e = (omega arith, l)
-leaf-bounds (byte b) s p r l e = (omega arith, byte-bound s p r (ltb p (length s)) (eqb (getD s p 0) b) refl e)
-leaf-bounds (class k) s p r l e = (omega arith, byte-bound s p r (ltb p (length s)) (eqb (classOf (getD s p 0)) k) refl e)
-leaf-bounds (call B C D) s p r l e = (omega arith, l)
+rule-bounds absent s p r l e = (omega arith, l)
+rule-bounds always s p r l e = (omega arith, l)
+rule-bounds never s p r l e = (omega arith, l)
+rule-bounds (byte b) s p r l e = (omega arith, byte-bound s p r (ltb p (length s)) (eqb (getD s p 0) b) refl e)
+rule-bounds (class k) s p r l e = (omega arith, byte-bound s p r (ltb p (length s)) (eqb (classOf (getD s p 0)) k) refl e)
+rule-bounds (call B C D) s p r l e = (omega arith, l)
 
 -- A leaf that succeeds looks as far as it ends.
 byte-success : (p q : ℕ) (b m : Bool) → cond b (cond m (gives (success (p + 1))) (gives failure)) atEnd ≡ gives (success q) → p + 1 ≡ q
@@ -52,12 +55,9 @@ module _ (rule : ℕ → Rule) (s : List ℕ) where
   examines-derives (leaf e) = (1, 1, derivation.leaf e)
   examines-derives (node e i j) = let d = examines-derives i in let f = examines-derives j in (_, _, derivation.node e (d .2) (f .2))
 
-  -- and every derivation has a reach:
-  pub leaf-examines : (x : Pair) (r : Result) → act rule s x ≡ gives r → Examines rule s x r (leafReachOf rule x)
-  leaf-examines (A at p) r e = leaf e
-
+  -- and every derivation has a reach,
   pub derives-examines : {x : Pair} {r : Result} {k h : ℕ} → Derives rule s x r k h → (m : ℕ) × Examines rule s x r m
-  derives-examines (derivation.leaf {x = x} {r = r} e) = (leafReachOf rule x, leaf-examines x r e)
+  derives-examines (derivation.leaf {x = x} e) = (leafReachOf rule x, leaf e)
   derives-examines (derivation.node e d f) = let i = derives-examines d in let j = derives-examines f in (max (i .0) (j .0), node e (i .1) (j .1))
 
   -- one only.
@@ -84,9 +84,12 @@ module _ (rule : ℕ → Rule) (s : List ℕ) where
   reaches-one x (stopped w) m n i j = omega arith
   reaches-one x loop m n i j = omega arith
 
-  -- It lies between the position and n. (Order 11 lets a byte rule at the end reach n + 1.)
+  -- It lies between the position and n.
+  leaf-bounds : (x : Pair) (r : Result) → positionOf x ≤ length s → act rule s x ≡ gives r → (positionOf x ≤ leafReachOf rule x) × (leafReachOf rule x ≤ length s)
+  leaf-bounds (A at p) r l e = rule-bounds (rule A) s p r l e
+
   pub reach-bounds : {x : Pair} {r : Result} {m : ℕ} → positionOf x ≤ length s → Examines rule s x r m → (positionOf x ≤ m) × (m ≤ length s)
-  reach-bounds l (leaf {A} {p} {r} e) = leaf-bounds (rule A) s p r l e
+  reach-bounds l (leaf {x} {r} e) = leaf-bounds x r l e
   reach-bounds l (node {A} {B} {C} {D} {p} {m} {n} {r} {t} e i j) =
       let a = reach-bounds l i in
       let d = examines-derives i in
@@ -95,3 +98,33 @@ module _ (rule : ℕ → Rule) (s : List ℕ) where
       let a₂ = a .1 in
       let b₂ = b .1 in
       (omega arith, omega arith)
+
+-- ---- A result depends on the bytes before its reach only.
+
+-- Two inputs have the same bytes before m, and none of them ends there where the other does not.
+abbrev pub SameBefore : ℕ → List ℕ → List ℕ → Type 0
+SameBefore m s s′ = (p : ℕ) → p < m → (getD s′ p 0 ≡ getD s p 0) × (ltb p (length s′) ≡ ltb p (length s))
+
+-- A rule that calls does so on every input.
+pub call-act : (rule : ℕ → Rule) (s s′ : List ℕ) (A p B C D : ℕ) → act rule s (A at p) ≡ calls B C D → act rule s′ (A at p) ≡ calls B C D
+unfolding actOf
+call-act rule s s′ A p B C D e = ap (λ (u : Rule). actOf u s′ p) (calls-call (rule A) s p B C D e)
+
+module _ (rule : ℕ → Rule) (s s′ : List ℕ) where
+  rule-act : (u : Rule) (p : ℕ) → SameBefore (leafReach u p) s s′ → actOf u s′ p ≡ actOf u s p
+  unfolding actOf
+  rule-act absent p h = refl
+  rule-act always p h = refl
+  rule-act never p h = refl
+  rule-act (byte b) p h = let k = h p (omega arith) in act-same (byte b) s s′ p (k .0) (k .1)
+  rule-act (class c) p h = let k = h p (omega arith) in act-same (class c) s s′ p (k .0) (k .1)
+  rule-act (call B C D) p h = refl
+
+  leaf-act : (x : Pair) → SameBefore (leafReachOf rule x) s s′ → act rule s′ x ≡ act rule s x
+  leaf-act (A at p) h = rule-act (rule A) p h
+
+  -- On an input with the same bytes before it a derivation has the same result and the same reach.
+  pub examines-same : {x : Pair} {r : Result} {m : ℕ} → SameBefore m s s′ → Examines rule s x r m → Examines rule s′ x r m
+  examines-same h (leaf {x} e) = leaf (leaf-act x h ∙ e)
+  examines-same h (node {A} {B} {C} {D} {p} {m} {n} e i j) =
+      node (call-act rule s s′ A p B C D e) (examines-same (λ q l. h q (omega arith)) i) (examines-same (λ q l. h q (omega arith)) j)

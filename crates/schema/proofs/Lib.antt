@@ -9,8 +9,8 @@ pub mod Laws
 pub mod TwoInputs
 pub mod Cell
 pub mod Ends
-pub mod Examined
 pub mod Closed
+pub mod Examined
 pub mod Answer
 pub mod Held
 pub mod Counted

@@ -20,15 +20,15 @@ entryA = 45 ∷ 54 ∷ 46 ∷ []
 -- The sign, the digit and the mark, each one past its position; then the number and the whole, the greater of two.
 pub sign-reach : Examines ruleH entryA (2 at 0) (success 1) 1
 unfolding text leading column row digitsAfter number field fields lineAt ruleWithin ruleOf classOf classIn actOf
-sign-reach = leaf {A = 2} {p = 0} {r = success 1} refl
+sign-reach = leaf {x = 2 at 0} {r = success 1} refl
 
 pub digit-reach : Examines ruleH entryA (4 at 1) (success 2) 2
 unfolding text leading column row digitsAfter number field fields lineAt ruleWithin ruleOf classOf classIn actOf
-digit-reach = leaf {A = 4} {p = 1} {r = success 2} refl
+digit-reach = leaf {x = 4 at 1} {r = success 2} refl
 
 pub mark-reach : Examines ruleH entryA (5 at 2) (success 3) 3
 unfolding text leading column row digitsAfter number field fields lineAt ruleWithin ruleOf classOf classIn actOf
-mark-reach = leaf {A = 5} {p = 2} {r = success 3} refl
+mark-reach = leaf {x = 5 at 2} {r = success 3} refl
 
 pub number-reach : Examines ruleH entryA (3 at 1) (success 3) 3
 unfolding text leading column row digitsAfter number field fields lineAt ruleWithin ruleOf classOf classIn actOf

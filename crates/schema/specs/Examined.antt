@@ -1,4 +1,4 @@
--- Document 02, order 6: how far a derivation looked (its reach). Assumes nothing.
+-- Document 02, order 6: how far a derivation looked, its reach (the examined length of incremental packrat parsing). Assumes nothing.
 use mathlib.Core.List.{List}
 use mathlib.Core.Path.{_≡_}
 use Prim.Native.Nat.{ℕ, _+_, max}
@@ -18,9 +18,10 @@ leafReach (call B C D) p = p
 abbrev pub leafReachOf : (ℕ → Rule) → Pair → ℕ
 leafReachOf rule (A at p) = leafReach (rule A) p
 
--- Examines rule s x r m: a derivation of the result r of x looks at bytes before m only. "Kind 4 has the greater reach of its two called pairs."
+-- Examines rule s x r m: the derivation of the result r of x has the reach m: it looks at bytes before m only. "Kind 4 has the greater reach of its
+-- two called pairs."
 pub data Examines (rule : ℕ → Rule) (s : List ℕ) : Pair → Result → ℕ → Type 0 where
-  leaf : {A p : ℕ} {r : Result} → act rule s (A at p) ≡ gives r → Examines rule s (A at p) r (leafReach (rule A) p)
+  leaf : {x : Pair} {r : Result} → act rule s x ≡ gives r → Examines rule s x r (leafReachOf rule x)
   node : {A B C D p m n : ℕ} {r t : Result} → act rule s (A at p) ≡ calls B C D → Examines rule s (B at p) t m
       → Examines rule s (second C D p t) r n → Examines rule s (A at p) r (max m n)
 

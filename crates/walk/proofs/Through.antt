@@ -17,12 +17,11 @@ use Rattle.schema.specs.Cells.{heldAt, reachAt, stored, HasCell}
 use Rattle.schema.proofs.Cells.{stored-there, stored-reach, stored-elsewhere, reach-elsewhere, stored-later, stored-length, stored-twice, view, view-stored}
 use Rattle.schema.specs.Closed.{Closed}
 use Rattle.schema.specs.Derivation.{Pair, _at_, Result, success, failure, gives, act, second}
-use Rattle.schema.specs.Examined.{leafReachOf, Examines, node}
+use Rattle.schema.specs.Examined.{leafReachOf, Examines, leaf, node}
 use Rattle.schema.specs.Table.{Within, cell, cells, held, reach}
 use Rattle.schema.proofs.Answer.{gtsCells}
 use Rattle.schema.proofs.Held.{heldCells, held-bounded}
 use Rattle.schema.proofs.Cell.{PairWithin, cell-below, cell-one}
-use Rattle.schema.proofs.Examined.{leaf-examines}
 use Rattle.step.specs.Codes.{openMark, Unsettled, Settled, Fits, Called, first-called, second-called, Given, by-leaf, by-calls}
 use Rattle.walk.specs.Walk.{before, Reaching, WalkReady}
 use Rattle.step.proofs.Within.{called-within}
@@ -157,7 +156,7 @@ module _ (rule : ℕ → Rule) (s : List ℕ) (v : ℕ) (closed : Closed v rule)
 
       -- Its reach is the one that the table gives.
       given-examined : {y : Pair} {t : Result} {k : ℕ} → PairWithin v (length s) y → Reaching rule s v T → Given rule s T y t k → Examines rule s y t k
-      given-examined w k (by-leaf {x = y} {r = t} e) = leaf-examines rule s y t e
+      given-examined w k (by-leaf e) = leaf e
       given-examined w k (by-calls {A} {B} {C} {D} {p = q} {t} {r = u} e h j) =
           node e (reaching-pair rule s v T k (B at q) t (called-within rule s v closed {T = T} w (first-called e)) h)
           (reaching-pair rule s v T k (second C D q t) u (called-within rule s v closed {T = T} w (second-called e h)) j)

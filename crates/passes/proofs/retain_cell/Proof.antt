@@ -1,4 +1,4 @@
-use Rattle.passes.proofs.Passing.{stores-kept}
+use Rattle.passes.proofs.Blanking.{stores-kept}
 use borrow.Author.Needs.{needs}
 use Rattle.passes.proofs.retain_cell.Statement.{statement}
 use Rattle.passes.proofs.retain_cell.Tie as tie

@@ -4,18 +4,18 @@ use Prim.Native.Nat.{_+_, _-_, _≤_}
 use native.Mathlib.Omega.{arith}
 use Rattle.schema.specs.Cells.{HasCell}
 use Rattle.passes.specs.Passes.{Keeps}
-use Rattle.passes.proofs.Passing.{keeps-none, keeps-more}
+use Rattle.passes.proofs.Blanking.{keeps-first, keeps-more}
 use Rattle.passes.proofs.retain_row.Statement.{statement}
 use Rattle.passes.proofs.retain_row.Tie as tie
 
 abbrev Inv-loop : tie.InvT-loop
-Inv-loop table₀ start c at₀ table at = (at ≤ c + 1) × Keeps c start at table₀ table
+Inv-loop table₀ start first c at₀ table at = (at ≤ c + 1) × Keeps c start at table₀ table
 
 abbrev μ-loop : tie.MeasureT-loop
-μ-loop table₀ start c at₀ table at = c + 1 - at
+μ-loop table₀ start first c at₀ table at = c + 1 - at
 
 loop-holds : tie.Need-loop-holds Inv-loop μ-loop
-loop-holds c = (omega arith, keeps-none _ _ _)
+loop-holds c = (omega arith, keeps-first (c .before .pre .3))
 
 add-retain-cell : tie.Need-add-retain-cell Inv-loop μ-loop
 add-retain-cell c = search needs

@@ -2,37 +2,56 @@ use Prim.Native.Nat.{_-_}
 use native.Mathlib.Omega.{arith}
 use borrow.Author.Needs.{needs}
 use Rattle.cells.proofs.Numbers.{cells-small}
-use Rattle.passes.proofs.Passing.{row-inside, Blanking, blanking-begins, blanking-goes-on, blanking-ends}
+use Rattle.passes.proofs.Rows.{row-inside}
+use Rattle.passes.proofs.Blanking.{Blanking, row-unchanged, blanking-begins, blanking-goes-on, blanking-ends}
 use Rattle.passes.proofs.retain_rows.Statement.{statement}
 use Rattle.passes.proofs.retain_rows.Tie as tie
 
 abbrev Inv-loop : tie.InvT-loop
-Inv-loop table₀ variables n c retained₀ start₀ table retained start = Blanking variables n c table₀ table retained start
+Inv-loop table₀ variables n c firsts retained₀ start₀ table retained start = Blanking variables n c table₀ table retained start
 
 abbrev μ-loop : tie.MeasureT-loop
-μ-loop table₀ variables n c retained₀ start₀ table retained start = variables - retained
+μ-loop table₀ variables n c firsts retained₀ start₀ table retained start = variables - retained
 
 loop-holds : tie.Need-loop-holds Inv-loop μ-loop
 loop-holds c = blanking-begins _ _ _ _
 
+cast-first : tie.Need-cast-first Inv-loop μ-loop
+cast-first c = search needs
+
+mul-first : tie.Need-mul-first Inv-loop μ-loop
+mul-first c = search needs
+
+element-copy-out-first : tie.Need-element-copy-out-first Inv-loop μ-loop
+element-copy-out-first c = search needs
+
+cast-first-2 : tie.Need-cast-first-2 Inv-loop μ-loop
+cast-first-2 c =
+    let st = c .before .before .before .before in
+    let l = c .before .before .loop in
+    let low = row-unchanged (c .before .loop-test .taken) (l .inv) (st .pre .1) .0 in
+    omega (arith, low, st .pre .0 .below, st .pre .0 .short)
+
 retain-row-requires : tie.Need-retain-row-requires Inv-loop μ-loop
 retain-row-requires c κs =
-    let st = c .before .before .before .before in
-    let r = st .pre in
-    let l = c .before .before .loop in
-    let i = row-inside (st .args .variables) (st .args .n) (l .retained) (l .start) (c .before .loop-test .taken) (l .inv .begins) in
+    let st = c .before .before .before .before .before in
+    let r = st .pre .0 in
+    let l = c .before .before .before .loop in
+    let t = c .before .before .loop-test .taken in
+    let i = row-inside (st .args .variables) (st .args .n) (l .retained) (l .start) t (l .inv .begins) in
     let z = l .inv .retains .size in
-    (omega (arith, r .short, r .below), omega (arith, r .room, r .below))
+    let u = row-unchanged t (l .inv) (st .pre .1) in
+    (omega (arith, r .short, r .below), u .0, omega (arith, r .room, r .below), u .1)
 
 add-start : tie.Need-add-start Inv-loop μ-loop
-add-start c = omega (arith, c .before .before .before .before .before .before .before .pre .short)
+add-start c = omega (arith, c .before .before .before .before .before .before .before .before .pre .0 .short)
 
 add-start-2 : tie.Need-add-start-2 Inv-loop μ-loop
 add-start-2 c =
-    let st = c .before .before .before .before .before .before .before in
-    let r = st .pre in
-    let l = c .before .before .before .before .before .loop in
-    let i = row-inside (st .args .variables) (st .args .n) (l .retained) (l .start) (c .before .before .before .before .loop-test .taken) (l .inv .begins) in
+    let st = c .before .before .before .before .before .before .before .before in
+    let r = st .pre .0 in
+    let l = c .before .before .before .before .before .before .loop in
+    let i = row-inside (st .args .variables) (st .args .n) (l .retained) (l .start) (c .before .before .before .before .before .loop-test .taken) (l .inv .begins) in
     omega (arith, cells-small _ _ (r .few) (r .short))
 
 add-retained : tie.Need-add-retained Inv-loop μ-loop
@@ -43,7 +62,9 @@ loop-less c = search needs
 
 loop-again : tie.Need-loop-again Inv-loop μ-loop
 loop-again c =
-    blanking-goes-on (c .before .before .before .before .before .before .before .pre .below) (c .before .before .before .before .loop-test .taken) (c .before .before .before .before .before .loop .inv) (c .before .before .retain-row .last .0) (c .before .before .retain-row .ensures)
+    let l = c .before .before .before .before .before in
+    blanking-goes-on (l .before .before .before .pre .0 .below) (l .loop-test .taken) (l .before .loop .inv) (c .before .before .retain-row .last .0)
+    (c .before .before .retain-row .ensures)
 
 same-length : tie.Need-same-length Inv-loop μ-loop
 same-length c = c .before .loop .inv .retains .size
@@ -58,6 +79,10 @@ retain-rows-spec =
     Inv-loop
     μ-loop
     loop-holds
+    cast-first
+    mul-first
+    element-copy-out-first
+    cast-first-2
     retain-row-requires
     add-start
     add-start-2
