@@ -33,7 +33,7 @@ pub fn correct(
             if input.len() <= c as usize {
                 return Answer::Refused(18, 0);
             }
-            if retain(table, variables, input.len(), c as usize) {
+            if retain(table, variables, input.len(), c) {
                 return Answer::Refused(19, 0);
             }
             ask_over(&rules, input, variables, variable, position, table, work)

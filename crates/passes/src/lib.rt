@@ -21,7 +21,7 @@ type FirstPositions = [u32; 256];
 // What is found in a row: whether a retained cell is out of range, and a position before which nothing is blanked.
 struct Row {
     out: bool,
-    first: usize,
+    first: u32,
 }
 
 // Is this the number of a success or a failure?
@@ -69,9 +69,9 @@ fn block_blank(table: &[u32], start: usize) -> bool
     blank
 }
 
-// Looks at the cells of a row from one position to another, with what was found before them. The row begins at a number. There is no branch in the loop,
-// so that the compiler tests several cells at once.
-fn look(table: &[u32], start: usize, from: usize, to: usize, n: usize, c: usize, before: Row) -> Row
+// Looks at the cells of a row from one position to another, with what was found before them. The row begins at a number. There is no branch in the loop
+// and c has 32 bits, so that the compiler tests several cells at once.
+fn look(table: &[u32], start: usize, from: usize, to: usize, n: usize, c: u32, before: Row) -> Row
     requires { ⌜ (n ≤ 4096) × (c < n) × (from ≤ to) × (to ≤ n + 1) × HasCell (now table) (start + n) × Looked n c (now table) start from (before .out) (before .first) ⌝ }
     ensures { λ r. ⌜ Looked n c (now (table .entry)) start to (r .out) (r .first) ⌝ }
 {
@@ -80,13 +80,16 @@ fn look(table: &[u32], start: usize, from: usize, to: usize, n: usize, c: usize,
     let mut position = from;
     while position < to {
         let cell = Cell::load(table, start + position);
-        let stays = ((c as u32) < position as u32) | looks_before(cell, c as u32);
+        let stays = (c < position as u32) | looks_before(cell, c);
         out = out | (stays & out_of_range(cell, position as u32, n as u32));
         changes = changes | (!stays & !is_blank(cell));
         position += 1;
     }
-    if changes & (from < before.first) {
-        return Row { out, first: from };
+    if changes & ((from as u32) < before.first) {
+        return Row {
+            out,
+            first: from as u32,
+        };
     }
     Row {
         out,
@@ -95,7 +98,7 @@ fn look(table: &[u32], start: usize, from: usize, to: usize, n: usize, c: usize,
 }
 
 // Looks at a row, which begins at a number.
-fn look_row(table: &[u32], start: usize, n: usize, c: usize) -> Row
+fn look_row(table: &[u32], start: usize, n: usize, c: u32) -> Row
     requires { ⌜ (n ≤ 4096) × (c < n) × HasCell (now table) (start + n) ⌝ }
     ensures { λ r. ⌜ Looked n c (now (table .entry)) start (n + 1) (r .out) (r .first) ⌝ }
 {
@@ -118,7 +121,7 @@ fn retained_out(
     table: &[u32],
     variables: u32,
     n: usize,
-    c: usize,
+    c: u32,
     firsts: &mut FirstPositions,
 ) -> bool
     requires { ⌜ PassReady variables n c (now table) × (length (now firsts) ≡ 256) ⌝ }
@@ -132,7 +135,7 @@ fn retained_out(
         if found.out {
             return true;
         }
-        firsts[row as usize] = found.first as u32;
+        firsts[row as usize] = found.first;
         start += n + 1;
         row += 1;
     }
@@ -159,27 +162,26 @@ fn retain_cell(table: &mut [u32], index: usize, c: u32)
 }
 
 // The cells of a row, which begins at a number, at positions from the first that may change up to c.
-fn retain_row(table: &mut [u32], start: usize, first: usize, c: usize)
+fn retain_row(table: &mut [u32], start: usize, first: u32, c: u32)
     requires { ⌜ (c ≤ 4096) × (first ≤ c + 1) × HasCell (now table) (start + c) × Unchanged c (now table) start first ⌝ }
     ensures { λ _. ⌜ Keeps c start (c + 1) (now (table .entry)) (now (table .exit)) ⌝ }
 {
-    let mut at = first;
-    while at <= c {
-        retain_cell(table, start + at, c as u32);
+    let mut at = first as usize;
+    while at <= c as usize {
+        retain_cell(table, start + at, c);
         at += 1;
     }
 }
 
 // Blanks the cells that do not stay, and leaves the others.
-fn retain_rows(table: &mut [u32], variables: u32, n: usize, c: usize, firsts: &FirstPositions)
+fn retain_rows(table: &mut [u32], variables: u32, n: usize, c: u32, firsts: &FirstPositions)
     requires { ⌜ PassReady variables n c (now table) × Firsts variables n c (now table) (now firsts) ⌝ }
     ensures { λ _. ⌜ Retains variables n c (now (table .entry)) (now (table .exit)) ⌝ }
 {
     let mut retained: u32 = 0;
     let mut start: usize = 0;
     while retained < variables {
-        let first = firsts[retained as usize] as usize;
-        retain_row(table, start, first, c);
+        retain_row(table, start, firsts[retained as usize], c);
         start += n + 1;
         retained += 1;
     }
@@ -187,7 +189,7 @@ fn retain_rows(table: &mut [u32], variables: u32, n: usize, c: usize, firsts: &F
 
 // Retains the cells at positions above c and the results that looked at bytes before c only, and blanks the others; or says that a retained one is
 // out of range, and leaves the table as it was.
-pub fn retain(table: &mut [u32], variables: u32, n: usize, c: usize) -> bool
+pub fn retain(table: &mut [u32], variables: u32, n: usize, c: u32) -> bool
     requires { ⌜ PassReady variables n c (now table) ⌝ }
     ensures refuses { λ r. ⌜ r ≡ retainedOut variables n c (now (table .entry)) ⌝ }
     ensures retains { λ r. ⌜ RetainsUnless r variables n c (now (table .entry)) (now (table .exit)) ⌝ }

@@ -28,12 +28,6 @@ load-requires c κs = search needs
 cast-stays : tie.Need-cast-stays Inv-loop μ-loop
 cast-stays c = search needs
 
-cast-stays-2 : tie.Need-cast-stays-2 Inv-loop μ-loop
-cast-stays-2 c = search needs
-
-cast-looks-before : tie.Need-cast-looks-before Inv-loop μ-loop
-cast-looks-before c = search needs
-
 looks-before-requires : tie.Need-looks-before-requires Inv-loop μ-loop
 looks-before-requires c κs = search needs
 
@@ -70,6 +64,12 @@ loop-again c =
     let none = c .is-blank .ensures ∙ ap (λ (k : ℕ × ℕ). eqb (k .0) 0 && eqb (k .1) 0) e in
     (omega arith, looking-on (a .n) (a .c) (a .table .now) (a .start) (g .inv .1) stay far none)
 
+cast-if1 : tie.Need-cast-if1 Inv-loop μ-loop
+cast-if1 c = search needs
+
+cast-t23 : tie.Need-cast-t23 Inv-loop μ-loop
+cast-t23 c = search needs
+
 returns : tie.Need-returns Inv-loop μ-loop
 returns c =
     let s = c .before .before .before .before .before in
@@ -100,8 +100,6 @@ look-spec =
     add-load
     load-requires
     cast-stays
-    cast-stays-2
-    cast-looks-before
     looks-before-requires
     cast-out-of-range
     cast-out-of-range-2
@@ -110,5 +108,7 @@ look-spec =
     add-position
     loop-less
     loop-again
+    cast-if1
+    cast-t23
     returns
     returns-2)

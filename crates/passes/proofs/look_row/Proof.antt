@@ -14,8 +14,8 @@ Inv-loop table start n c row₀ at₀ row at = (at ≤ n + 1) × Looked n c tabl
 abbrev μ-loop : tie.MeasureT-loop
 μ-loop table start n c row₀ at₀ row at = n + 1 - at
 
-add-look : tie.Need-add-look Inv-loop μ-loop
-add-look c = search needs
+add-t7 : tie.Need-add-t7 Inv-loop μ-loop
+add-t7 c = search needs
 
 loop-holds : tie.Need-loop-holds Inv-loop μ-loop
 loop-holds c = let a = c .before .args in (omega arith, look-begins (a .n) (a .c) (a .table .now) (a .start))
@@ -32,8 +32,8 @@ add-block-blank c = search needs
 block-blank-requires : tie.Need-block-blank-requires Inv-loop μ-loop
 block-blank-requires c κs = search needs
 
-add-look-2 : tie.Need-add-look-2 Inv-loop μ-loop
-add-look-2 c = search needs
+add-look : tie.Need-add-look Inv-loop μ-loop
+add-look c = search needs
 
 look-requires : tie.Need-look-requires Inv-loop μ-loop
 look-requires c κs =
@@ -61,8 +61,8 @@ loop-again c =
       ],
     )
 
-add-look-3 : tie.Need-add-look-3 Inv-loop μ-loop
-add-look-3 c = search needs
+add-look-2 : tie.Need-add-look-2 Inv-loop μ-loop
+add-look-2 c = search needs
 
 look-requires-2 : tie.Need-look-requires-2 Inv-loop μ-loop
 look-requires-2 c κs =
@@ -79,17 +79,17 @@ look-row-spec =
     (tie.spec
     Inv-loop
     μ-loop
-    add-look
+    add-t7
     loop-holds
     add-loop
     add-loop-2
     add-block-blank
     block-blank-requires
-    add-look-2
+    add-look
     look-requires
     add-at
     loop-less
     loop-again
-    add-look-3
+    add-look-2
     look-requires-2
     returns)

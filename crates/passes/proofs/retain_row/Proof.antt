@@ -20,9 +20,6 @@ loop-holds c = (omega arith, keeps-first (c .before .pre .3))
 add-retain-cell : tie.Need-add-retain-cell Inv-loop μ-loop
 add-retain-cell c = search needs
 
-cast-retain-cell : tie.Need-cast-retain-cell Inv-loop μ-loop
-cast-retain-cell c = search needs
-
 retain-cell-requires : tie.Need-retain-cell-requires Inv-loop μ-loop
 retain-cell-requires c κs =
     let z = c .before .before .loop .inv .1 .size in
@@ -60,7 +57,6 @@ retain-row-spec =
     μ-loop
     loop-holds
     add-retain-cell
-    cast-retain-cell
     retain-cell-requires
     add-at
     loop-less

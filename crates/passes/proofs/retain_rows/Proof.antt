@@ -16,21 +16,14 @@ abbrev μ-loop : tie.MeasureT-loop
 loop-holds : tie.Need-loop-holds Inv-loop μ-loop
 loop-holds c = blanking-begins _ _ _ _
 
-cast-first : tie.Need-cast-first Inv-loop μ-loop
-cast-first c = search needs
+cast-retain-row : tie.Need-cast-retain-row Inv-loop μ-loop
+cast-retain-row c = search needs
 
-mul-first : tie.Need-mul-first Inv-loop μ-loop
-mul-first c = search needs
+mul-retain-row : tie.Need-mul-retain-row Inv-loop μ-loop
+mul-retain-row c = search needs
 
-element-copy-out-first : tie.Need-element-copy-out-first Inv-loop μ-loop
-element-copy-out-first c = search needs
-
-cast-first-2 : tie.Need-cast-first-2 Inv-loop μ-loop
-cast-first-2 c =
-    let st = c .before .before .before .before in
-    let l = c .before .before .loop in
-    let low = row-unchanged (c .before .loop-test .taken) (l .inv) (st .pre .1) .0 in
-    omega (arith, low, st .pre .0 .below, st .pre .0 .short)
+element-copy-out-retain-row : tie.Need-element-copy-out-retain-row Inv-loop μ-loop
+element-copy-out-retain-row c = search needs
 
 retain-row-requires : tie.Need-retain-row-requires Inv-loop μ-loop
 retain-row-requires c κs =
@@ -79,10 +72,9 @@ retain-rows-spec =
     Inv-loop
     μ-loop
     loop-holds
-    cast-first
-    mul-first
-    element-copy-out-first
-    cast-first-2
+    cast-retain-row
+    mul-retain-row
+    element-copy-out-retain-row
     retain-row-requires
     add-start
     add-start-2

@@ -30,28 +30,23 @@ returns c =
     (sym (rows-out (a .variables) (a .n) (a .c) (a .table .now) (l .loop .inv) (c .before .look-row .ensures) (c .before .before .loop-test .taken) (c .if1 .taken)), tt)
 
 cast-firsts : tie.Need-cast-firsts Inv-loop μ-loop
-cast-firsts c =
-    let r = c .before .before .before .before .before .before .pre .0 in
-    omega (arith, c .before .before .look-row .ensures .low, r .below, r .short)
-
-cast-firsts-2 : tie.Need-cast-firsts-2 Inv-loop μ-loop
-cast-firsts-2 c = search needs
+cast-firsts c = search needs
 
 mul-firsts : tie.Need-mul-firsts Inv-loop μ-loop
 mul-firsts c = search needs
 
 element-write-firsts : tie.Need-element-write-firsts Inv-loop μ-loop
 element-write-firsts c =
-    let r = c .before .before .before .before .before .before .pre .0 in
-    omega (arith, c .before .before .before .loop-test .taken, r .few)
+    let r = c .before .before .before .before .before .pre .0 in
+    omega (arith, c .before .before .loop-test .taken, r .few)
 
 add-start : tie.Need-add-start Inv-loop μ-loop
-add-start c = omega (arith, c .before .before .before .before .before .before .pre .0 .short)
+add-start c = omega (arith, c .before .before .before .before .before .pre .0 .short)
 
 add-start-2 : tie.Need-add-start-2 Inv-loop μ-loop
 add-start-2 c =
-    let r = c .before .before .before .before .before .before .pre .0 in
-    let i = row-inside _ _ _ _ (c .before .before .before .loop-test .taken) (c .before .before .before .before .loop .inv .begins) in
+    let r = c .before .before .before .before .before .pre .0 in
+    let i = row-inside _ _ _ _ (c .before .before .loop-test .taken) (c .before .before .before .loop .inv .begins) in
     omega (arith, cells-small _ _ (r .few) (r .short))
 
 add-row : tie.Need-add-row Inv-loop μ-loop
@@ -62,11 +57,11 @@ loop-less c = search needs
 
 loop-again : tie.Need-loop-again Inv-loop μ-loop
 loop-again c =
-    let l = c .before .before .before .before in
+    let l = c .before .before .before in
     let a = l .before .before .args in
     let r = l .before .before .pre .0 in
-    rows-go-on (a .variables) (a .n) (a .c) (a .table .now) (l .loop .inv) (c .before .before .look-row .ensures) (r .below) (r .few)
-    (c .before .before .before .loop-test .taken) (c .before .if1 .left)
+    rows-go-on (a .variables) (a .n) (a .c) (a .table .now) (l .loop .inv) (c .before .look-row .ensures) (r .below) (r .few)
+    (c .before .before .loop-test .taken) (c .if1 .left)
 
 returns-2 : tie.Need-returns-2 Inv-loop μ-loop
 returns-2 c =
@@ -85,7 +80,6 @@ retained-out-spec =
     look-row-requires
     returns
     cast-firsts
-    cast-firsts-2
     mul-firsts
     element-write-firsts
     add-start
