@@ -33,11 +33,12 @@ pub struct Reader {
     header: Header,
     words: Box<[u32; 256]>,
     letters: Vec<u8>,
+    /// That of the last answer; empty before the first.
+    entry: Vec<u8>,
+    /// Its first V times (n + 1) cells are those that the last answer left of the entry, blank before the first: it can always be corrected.
     table: Vec<u32>,
     work: Vec<u32>,
     output: Vec<u8>,
-    /// How many cells of the table the last answer is about.
-    cells: usize,
 }
 
 impl Reader {
@@ -54,16 +55,18 @@ impl Reader {
     pub fn new(sheet: &[u8]) -> Result<Reader, Error> {
         let mut words = Box::new([0; 256]);
         let header = lent::sheet(sheet, &mut words)?;
-        Ok(Reader {
+        let mut reader = Reader {
             sheet: sheet.to_vec(),
             header,
             words,
             letters: Vec::new(),
+            entry: Vec::new(),
             table: Vec::new(),
             work: Vec::new(),
             output: Vec::new(),
-            cells: 0,
-        })
+        };
+        reader.make_room(&[]);
+        Ok(reader)
     }
 
     /// Turns a text of the societies' shorthand into a sheet and reads that. The text's letters stand for their variables in what is shown
@@ -98,9 +101,9 @@ impl Reader {
     /// # Ok::<(), entryreader::Error>(())
     /// ```
     pub fn verdict(&mut self, entry: &[u8]) -> Result<Verdict, Error> {
-        let cells = self.make_room(entry);
+        self.make_room(entry);
         let verdict = lent::judge(&self.sheet, entry, &mut self.table, &mut self.work)?;
-        self.cells = cells;
+        entry.clone_into(&mut self.entry);
         Ok(verdict)
     }
 
@@ -115,10 +118,49 @@ impl Reader {
     /// # Ok::<(), entryreader::Error>(())
     /// ```
     pub fn ask(&mut self, entry: &[u8], variable: u32, position: u32) -> Result<Answer, Error> {
-        let cells = self.make_room(entry);
+        self.make_room(entry);
         let (table, work) = (&mut self.table, &mut self.work);
         let answer = lent::question(&self.sheet, entry, variable, position, table, work)?;
-        self.cells = cells;
+        entry.clone_into(&mut self.entry);
+        Ok(answer)
+    }
+
+    /// Corrects the byte at `c` of the [`entry`](Reader::entry) of the last answer, and gives the answer about a variable at a position of it: the one
+    /// that [`ask`](Reader::ask) gives, but for `cells`, the count of newly decided cells. What the byte cannot have changed is kept from the
+    /// answers before.
+    ///
+    /// A refusal (8, 9 or 18) leaves entry and table as they were. Before the first answer the entry is empty, and has no byte to correct (18).
+    ///
+    /// ```
+    /// use entryreader::{Answer, Reader};
+    ///
+    /// // A digit and a full stop.
+    /// let mut reader = Reader::new(b"    3    1   46    0    0
+    ///     1    4    2    3    2
+    ///     2    3    1    0    0
+    ///     3    2   46    0    0
+    /// ")?;
+    /// assert_eq!(reader.ask(b"6,", 1, 0)?, Answer::Failure { cells: 3 });
+    /// // The comma is a full stop: the digit before it is not read again.
+    /// assert_eq!(reader.correct(1, b'.', 1, 0)?, Answer::Success { end: 2, cells: 2 });
+    /// assert_eq!(reader.entry(), b"6.");
+    /// assert_eq!(reader.correct(2, b'.', 1, 0).unwrap_err().number(), 18);
+    /// # Ok::<(), entryreader::Error>(())
+    /// ```
+    pub fn correct(
+        &mut self,
+        c: u32,
+        byte: u8,
+        variable: u32,
+        position: u32,
+    ) -> Result<Answer, Error> {
+        let mut entry = self.entry.clone();
+        if let Some(corrected) = entry.get_mut(calls::length(c)) {
+            *corrected = byte;
+        }
+        let (table, work) = (&mut self.table, &mut self.work);
+        let answer = lent::correct(&self.sheet, &entry, variable, position, c, table, work)?;
+        self.entry = entry;
         Ok(answer)
     }
 
@@ -142,7 +184,7 @@ impl Reader {
         let (table, work, output) = (&mut self.table, &mut self.work, &mut self.output);
         let start = self.header.start;
         let (answer, lines) = lent::write(&self.sheet, entry, start, 0, table, work, output)?;
-        self.cells = cells;
+        entry.clone_into(&mut self.entry);
         Ok(Reading::new(
             answer,
             self.output[..LINE * calls::length(lines)].to_vec(),
@@ -265,8 +307,23 @@ impl Reader {
         )
     }
 
-    /// The table that the last answer left, as [`question`](lent::question) says: V times (n + 1) cells of two
-    /// numbers, outcome then reach.
+    /// The entry that the table is of: that of the last answer, after a correction the corrected one; empty before the first.
+    ///
+    /// ```
+    /// let mut reader = entryreader::Reader::new(b"    1    1   46    0    0\n    1    2   46    0    0\n")?;
+    /// assert_eq!(reader.entry(), b"");
+    /// reader.verdict(b".")?;
+    /// // Refused: the endmarker is missing.
+    /// assert!(reader.verdict(b"6").is_err());
+    /// assert_eq!(reader.entry(), b".");
+    /// # Ok::<(), entryreader::Error>(())
+    /// ```
+    pub fn entry(&self) -> &[u8] {
+        &self.entry
+    }
+
+    /// The table that the last answer left of the [`entry`](Reader::entry), as [`question`](lent::question) and [`correct`](lent::correct) say:
+    /// V times (n + 1) cells of two numbers, outcome then reach.
     ///
     /// ```
     /// let mut reader = entryreader::Reader::new(b"    1    1   46    0    0\n    1    2   46    0    0\n")?;
@@ -275,12 +332,17 @@ impl Reader {
     /// # Ok::<(), entryreader::Error>(())
     /// ```
     pub fn table(&self) -> &[u32] {
-        &self.table[..2 * self.cells]
+        &self.table[..2 * self.cells(self.entry.len())]
     }
 
-    /// Lets the table grow to V times (n + 1) cells of two numbers, and the work slice to as many numbers: the count of cells.
+    /// How many cells an entry of so many bytes has: V times (n + 1).
+    fn cells(&self, length: usize) -> usize {
+        calls::length(self.header.variables) * (length + 1)
+    }
+
+    /// Lets the table grow to two numbers for each cell of an entry, and the work slice to one: the count of cells. What they hold stays.
     fn make_room(&mut self, entry: &[u8]) -> usize {
-        let cells = calls::length(self.header.variables) * (entry.len().min(LONGEST) + 1);
+        let cells = self.cells(entry.len().min(LONGEST));
         if self.work.len() < cells {
             self.table.resize(2 * cells, 0);
             self.work.resize(cells, 0);

@@ -4,7 +4,7 @@ mod marked_cases;
 
 use entryreader::lent::{question, verdict};
 use entryreader::{Answer, Code, Refusal};
-use marked_cases::{G, H, I, J, THROUGH_SECOND, cases};
+use marked_cases::{CELLS, G, H, I, J, THROUGH_SECOND, cases};
 
 fn judge(sheet: &str, entry: &str) -> Result<Code, Refusal> {
     verdict(sheet.as_bytes(), entry.as_bytes()).map_err(|error| error.refusal())
@@ -26,15 +26,8 @@ fn cells_of_a() {
     let (mut table, mut work) = ([7; 54], [7; 30]);
     let answer = question(H.as_bytes(), b"-6.", 1, 0, &mut table, &mut work);
     assert_eq!(answer, Ok(Answer::Success { end: 3, cells: 5 }));
-    let mut expected = [0; 54];
-    expected[48..].fill(7);
-    expected[0..2].copy_from_slice(&[8, 3]); // 1 at 0
-    expected[8..10].copy_from_slice(&[6, 1]); // 2 at 0
-    expected[18..20].copy_from_slice(&[8, 3]); // 3 at 1
-    expected[26..28].copy_from_slice(&[7, 2]); // 4 at 1
-    expected[36..38].copy_from_slice(&[8, 3]); // 5 at 2
-    assert_eq!(table, expected);
-    assert_eq!(work[24..], [7; 6]);
+    assert_eq!(table[..48], CELLS.concat());
+    assert_eq!((&table[48..], &work[24..]), (&[7; 6][..], &[7; 6][..]));
 }
 
 /// Each code, on entries with an endmarker at their end.

@@ -1,5 +1,7 @@
-//! `Reader`: the marked entries, memory that grows and is used again, refusals with their lines and sentences, the line at fault of a reading; and random
-//! questions beside the calls over lent slices and the recognizer.
+//! `Reader`: the marked entries, memory that grows and is used again, corrections, refusals with their lines and sentences, the line at fault of a
+//! reading; and random questions and corrections beside the calls over lent slices and the recognizer.
+#[allow(dead_code)] // Other tests hand over tables that no call left.
+mod kept;
 mod marked_cases;
 #[allow(dead_code, unused_imports)] // Other tests lend slices around the limits.
 mod questions;
@@ -9,7 +11,8 @@ mod random;
 mod recognizer;
 
 use entryreader::{Answer, Claim, Error, Line, Pair, Reader, Refusal, Rule, Verdict, lent};
-use marked_cases::{G, H, I, J, READING, THROUGH_SECOND, cases};
+use kept::Correction;
+use marked_cases::{CELLS, G, H, I, J, READING, THROUGH_SECOND, cases};
 use questions::row;
 use random::Random;
 use recognizer::{Question, with_deep_stack};
@@ -110,16 +113,7 @@ fn case_a() {
     assert_eq!(reading.lines, lines);
     let claim = reader.check(b"-6.", &reading.bytes);
     assert_eq!(claim, Ok(Claim::Success { end: 3 }));
-    // A row for each variable, with positions 0 to 3, outcome and reach.
-    let rows = [
-        [8, 3, 0, 0, 0, 0, 0, 0],
-        [6, 1, 0, 0, 0, 0, 0, 0],
-        [0, 0, 8, 3, 0, 0, 0, 0],
-        [0, 0, 7, 2, 0, 0, 0, 0],
-        [0, 0, 0, 0, 8, 3, 0, 0],
-        [0, 0, 0, 0, 0, 0, 0, 0],
-    ];
-    assert_eq!(reader.table(), rows.concat());
+    assert_eq!(reader.table(), CELLS.concat());
 }
 
 /// What a variable took, where it also succeeded in a branch that was given up: 2 fails behind the a that 4 takes, so that 3 is tried, in which 7 takes
@@ -257,6 +251,142 @@ fn any_bytes() {
             .map_err(|error| error.number());
         assert_eq!(found, expected, "{byte}");
         assert!(reader.ask(&[byte], 1, 0).is_ok(), "{byte}");
+    }
+}
+
+/// Case a with each of its bytes corrected, by hand.
+#[test]
+fn corrected_case_a() {
+    let success = |end, cells| Ok(Answer::Success { end, cells });
+    let failure = |cells| Ok(Answer::Failure { cells });
+    for (c, byte, answer) in [
+        // 1 and 2 at 0; 3 and what it calls are looked up at 1.
+        (0, b'-', success(3, 2)),
+        // 2 fails, so that 3 is called at 0 too, and 4 and 6 by it.
+        (0, b'x', failure(5)),
+        // 1 at 0, 3 and 4 at 1; 5 at 2 stays.
+        (1, b'7', success(3, 3)),
+        // Without a digit 6 is called at 1 besides.
+        (1, b'x', failure(4)),
+        // 1 at 0, 3 at 1, 5 at 2: sign and digit stay.
+        (2, b'.', success(3, 3)),
+        (2, b'x', failure(3)),
+    ] {
+        let mut reader = reader(H);
+        assert_eq!(reader.ask(b"-6.", 1, 0), success(3, 5));
+        assert_eq!(reader.correct(c, byte, 1, 0), answer, "{c} {byte}");
+        let mut entry = *b"-6.";
+        entry[c as usize] = byte;
+        assert_eq!(reader.entry(), entry);
+    }
+}
+
+/// Sixty-four small letters, each behind those before it: variable 63 takes two of them, 62 three, and 1 all; 64 is a letter, and 65 fails.
+fn letters() -> Reader {
+    let mut sheet = row([65, 1, 46, 0, 0]);
+    for variable in 1..=63 {
+        sheet += &row([variable, 4, variable + 1, 64, 65]);
+    }
+    reader(&(sheet + &row([64, 3, 3, 0, 0]) + &row([65, 1, 0, 0, 0])))
+}
+
+/// The question decides 63 cells at position 0, of which that of variable v reaches 65 - v, and a letter at each position. A correction at c decides the
+/// letter there and, of the others, those that reach past c: few near the end.
+#[test]
+fn near_the_end() {
+    let entry = [b'a'; 64];
+    for c in 0..64 {
+        let mut reader = letters();
+        let (end, cells) = (64, 63 + 64);
+        assert_eq!(reader.ask(&entry, 1, 0), Ok(Answer::Success { end, cells }));
+        let cells = (64 - c).min(63) + 1;
+        let answer = reader.correct(c, b'b', 1, 0);
+        assert_eq!(answer, Ok(Answer::Success { end, cells }), "{c}");
+        // Where the letter at c fails, so does 65 at 0, unless variable 1 itself called the letter.
+        let cells = cells + u32::from(c < 63);
+        let answer = reader.correct(c, b'B', 1, 0);
+        assert_eq!(answer, Ok(Answer::Failure { cells }), "{c}");
+    }
+}
+
+/// A correction may follow any answer: entry and table are those of the last one.
+#[test]
+fn corrected_after_each_call() {
+    let mut reader = reader(H);
+    let success = |end, cells| Ok(Answer::Success { end, cells });
+    assert!(reader.verdict(b"-6.").is_ok());
+    assert_eq!(reader.correct(1, b'7', 1, 0), success(3, 3));
+    assert_eq!(reader.correct(1, b'8', 1, 0), success(3, 3));
+    assert!(reader.reading(b"-6.").is_ok());
+    assert_eq!(reader.correct(1, b'7', 1, 0), success(3, 3));
+    // Only the full stop was asked for: the other four cells are new.
+    assert_eq!(reader.ask(b"-6.", 5, 2), success(3, 1));
+    assert_eq!(reader.correct(1, b'7', 1, 0), success(3, 4));
+    assert_eq!(reader.entry(), b"-7.");
+    // Of a shorter entry, and of one without bytes.
+    assert_eq!(reader.ask(b"6", 4, 0), success(1, 1));
+    assert_eq!(reader.correct(0, b'7', 4, 0), success(1, 1));
+    assert!(reader.ask(b"", 6, 0).is_ok());
+    let refused = reader.correct(0, b'7', 6, 0);
+    assert_eq!(refused.map_err(|error| error.number()), Err(18));
+    assert_eq!((reader.entry(), reader.table().len()), (&b""[..], 2 * 6));
+}
+
+/// Number of a refused correction.
+fn refused_correction(reader: &mut Reader, c: u32, Pair { variable, position }: Pair) -> u32 {
+    let refused = reader.correct(c, b'x', variable, position);
+    let error = refused.expect_err("it is refused");
+    assert_eq!(error.line(), None);
+    error.number()
+}
+
+/// 8, 9 and 18, in this order; entry and table stay.
+#[test]
+fn refused_corrections() {
+    let pair = |variable, position| Pair { variable, position };
+    let mut reader = reader(H);
+    // The entry is empty before the first answer.
+    assert_eq!((reader.entry(), reader.table()), (&b""[..], &[0; 12][..]));
+    assert_eq!(refused_correction(&mut reader, 0, pair(1, 0)), 18);
+    assert_eq!(refused_correction(&mut reader, 0, pair(1, 1)), 9);
+    assert_eq!(refused_correction(&mut reader, 0, pair(7, 0)), 8);
+    assert_eq!((reader.entry(), reader.table()), (&b""[..], &[0; 12][..]));
+    assert!(reader.verdict(b"-6.").is_ok());
+    let table = reader.table().to_vec();
+    for (c, asked, number) in [
+        (0, pair(0, 0), 8),
+        (1, pair(7, 3), 8),
+        (2, pair(u32::MAX, 0), 8),
+        (3, pair(7, 4), 8),
+        (0, pair(1, 4), 9),
+        (2, pair(6, u32::MAX), 9),
+        (3, pair(1, 4), 9),
+        (3, pair(1, 3), 18),
+        (4, pair(1, 0), 18),
+        (u32::MAX, pair(6, 0), 18),
+    ] {
+        assert_eq!(refused_correction(&mut reader, c, asked), number);
+        assert_eq!((reader.entry(), reader.table()), (&b"-6."[..], &table[..]));
+    }
+    let last = reader.correct(2, b'x', 1, 0);
+    assert_eq!(last, Ok(Answer::Failure { cells: 3 }));
+}
+
+/// Entries that are refused in between, one of which lets the slices grow: what was answered before is corrected.
+#[test]
+fn refused_entries_between() {
+    let mut reader = reader(H);
+    assert!(reader.verdict(b"-6.").is_ok());
+    let table = reader.table().to_vec();
+    let (short, longer, long) = (b"6..", [b'6'; 100], [b'.'; 4_097]);
+    for (entry, of_verdict, of_question) in [(&short[..], 7, 8), (&longer, 7, 8), (&long, 6, 6)] {
+        let verdict = reader.verdict(entry).map_err(|error| error.number());
+        assert_eq!(verdict, Err(of_verdict));
+        let answer = reader.ask(entry, 7, 0).map_err(|error| error.number());
+        assert_eq!(answer, Err(of_question));
+        assert_eq!((reader.entry(), reader.table()), (&b"-6."[..], &table[..]));
+        let answer = reader.correct(2, b'.', 1, 0);
+        assert_eq!(answer, Ok(Answer::Success { end: 3, cells: 3 }));
     }
 }
 
@@ -515,7 +645,7 @@ impl<'a> Beside<'a> {
             assert_eq!(self.reader.table(), self.table);
         }
         met.found("verdict", &found, |verdict| verdict.code().to_string());
-        if self.table.len() <= 1_024 {
+        if self.work.len() <= 1_024 {
             let own = lent::verdict(sheet, self.entry);
             assert_eq!(found.map(|verdict| verdict.code()), own);
             met.found("own cells", &own, |code| code.to_string());
@@ -595,6 +725,115 @@ fn random_question(random: &mut Random, met: &mut Met) {
         beside.question(case.asked, met);
         beside.reading(random, met);
     }
+}
+
+/// What is to be refused of a correction of an entry of n bytes.
+fn refused_by_document(variables: u32, n: u32, c: u32, asked: Pair) -> Option<u32> {
+    let refusals = [
+        (8, asked.variable == 0 || variables < asked.variable),
+        (9, n < asked.position),
+        (18, n <= c),
+    ];
+    let first = refusals.into_iter().find(|(_, holds)| *holds);
+    first.map(|(number, _)| number)
+}
+
+/// One correction: answer, count and cells are what document 02 and the recognizer say, and a fresh reader answers the same; or it is refused, and entry
+/// and table stay.
+fn correct(reader: &mut Reader, (c, byte): (u32, u8), asked: Pair, met: &mut Met) {
+    let (mut entry, table) = (reader.entry().to_vec(), reader.table().to_vec());
+    let correction = Correction {
+        n: u32::try_from(entry.len()).expect("few"),
+        c,
+    };
+    let found = reader.correct(c, byte, asked.variable, asked.position);
+    met.found("correct", &found, kind);
+    let refused = refused_by_document(reader.variables(), correction.n, c, asked);
+    if let Some(number) = refused {
+        assert_eq!(found.map_err(|error| error.number()), Err(number));
+        assert_eq!((reader.entry(), reader.table()), (&entry[..], &table[..]));
+        return;
+    }
+    entry[c as usize] = byte;
+    let question = Question {
+        sheet: reader.sheet(),
+        entry: &entry,
+        asked,
+    };
+    let reached = recognizer::question(question, usize::MAX, usize::MAX).expect("it is accepted");
+    let (cells, newly) = kept::left(&reached.table, &correction.retained(&table));
+    assert_eq!(found, Ok(reached.answer(newly)));
+    assert_eq!((reader.entry(), reader.table()), (&entry[..], &cells[..]));
+    let mut fresh = Reader::new(reader.sheet()).expect("it was accepted");
+    let answer = fresh.ask(&entry, asked.variable, asked.position);
+    assert_eq!(answer, Ok(reached.answer(reached.cells)));
+    assert_eq!(fresh.table(), reached.table);
+}
+
+/// A pair for an entry of n bytes, and the position of a byte to correct: one time in thirty there is none.
+fn to_correct(random: &mut Random, variables: u32, n: u32) -> (u32, Pair) {
+    let mut out_of = |limit: u32| match random.below(90) {
+        0 => random.pick(&[limit, limit + 1, u32::MAX]),
+        _ => random.below(limit.max(1).into()) as u32,
+    };
+    let (c, variable, position) = (out_of(n), out_of(variables), out_of(n + 1));
+    let variable = variable.wrapping_add(1);
+    (c, Pair { variable, position })
+}
+
+/// A call before a correction. Only one that is answered has its entry corrected.
+fn call_between(random: &mut Random, reader: &mut Reader, met: &mut Met) {
+    let length = random.index(20);
+    let other = questions::entry(random, length);
+    let own = reader.entry().to_vec();
+    let entry = random.pick(&[&own, &other]);
+    let (call, found) = match random.below(12) {
+        0 => ("verdict", reader.verdict(entry).map(drop)),
+        1 => ("reading", reader.reading(entry).map(drop)),
+        2 => ("ask", reader.ask(entry, 1, 0).map(drop)),
+        3 => ("ask", reader.ask(&[b'a'; 4_097], 1, 0).map(drop)),
+        _ => return,
+    };
+    met.found(call, &found, |()| "answered".to_string());
+}
+
+/// Corrections one after the other, with other calls between them.
+#[test]
+fn corrections() {
+    let (mut random, mut met) = (Random(32), Met::default());
+    for _ in 0..4_000 {
+        let variables = 1 + random.below(16);
+        let sheet = questions::sheet(&mut random, variables);
+        let mut reader = Reader::new(&sheet).expect("it is accepted");
+        let length = random.index(13);
+        let entry = questions::entry(&mut random, length);
+        if !random.one_in(10) {
+            assert!(reader.ask(&entry, 1, 0).is_ok());
+        }
+        for _ in 0..random.below(8) {
+            call_between(&mut random, &mut reader, &mut met);
+            let n = u32::try_from(reader.entry().len()).expect("few");
+            let (c, asked) = to_correct(&mut random, reader.variables(), n);
+            let byte = random.pick(b"a\xE9\xE9b\xC9-6A\xA0 \xD7!\x80.");
+            correct(&mut reader, (c, byte), asked, &mut met);
+        }
+    }
+    let possible = [
+        "correct success",
+        "correct failure",
+        "correct loop",
+        "correct missing",
+        "correct end",
+        "correct refused 8",
+        "correct refused 9",
+        "correct refused 18",
+        "verdict answered",
+        "verdict refused 7",
+        "reading answered",
+        "ask answered",
+        "ask refused 6",
+    ];
+    met.assert_met(&possible, 50);
 }
 
 /// Everything that the calls can say.

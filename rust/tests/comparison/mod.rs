@@ -3,7 +3,7 @@ use crate::lent::Lent;
 use crate::questions::{self, Case};
 use crate::random::Random;
 use crate::recognizer::{self, Answered, Ending, Outcome, Ran, Size, Written, bytes, code};
-use entryreader::{Answer, Claim, Pair, lent as exported, test_calls};
+use entryreader::{Claim, Pair, lent as exported, test_calls};
 use std::collections::{BTreeMap, BTreeSet};
 
 const OUTCOMES: &[&str] = &["success", "failure", "loop", "missing", "end"];
@@ -62,42 +62,6 @@ fn end(outcome: Outcome) -> u32 {
     }
 }
 
-/// The numbers of a question's answer.
-fn numbers(found: &Answered) -> [u32; 4] {
-    let named = found.named.unwrap_or(Pair {
-        variable: 0,
-        position: 0,
-    });
-    [
-        code(found.outcome),
-        named.variable,
-        named.position,
-        found.cells,
-    ]
-}
-
-/// What the program is to get of a question.
-fn answer(found: &Answered) -> Answer {
-    let cells = found.cells;
-    let named = || found.named.expect("only success and failure name no pair");
-    match found.outcome {
-        Outcome::Success(end) => Answer::Success { end, cells },
-        Outcome::Failure => Answer::Failure { cells },
-        Outcome::Loop => Answer::Loop {
-            named: named(),
-            cells,
-        },
-        Outcome::Missing => Answer::Missing {
-            named: named(),
-            cells,
-        },
-        Outcome::End => Answer::End {
-            named: named(),
-            cells,
-        },
-    }
-}
-
 /// The question as the program asks it.
 fn as_program(case: &Case, table: usize, work: usize, expected: &Result<Answered, u32>) {
     let (mut table, mut work) = (vec![7; table], vec![7; work]);
@@ -113,7 +77,10 @@ fn as_program(case: &Case, table: usize, work: usize, expected: &Result<Answered
     let found = found.map_err(|error| error.number());
     assert_eq!(
         found,
-        expected.as_ref().map(answer).map_err(|n| *n),
+        expected
+            .as_ref()
+            .map(|found| found.answer(found.cells))
+            .map_err(|n| *n),
         "{case}"
     );
 }
@@ -227,7 +194,7 @@ impl Comparison {
         let (code, same, what) = match &expected {
             Ok(found) => (
                 0,
-                room.holds(&numbers(found), &found.table, &[]),
+                room.holds(&found.numbers(found.cells), &found.table, &[]),
                 name(found.outcome),
             ),
             Err(number) => (100 + number, room.unchanged(), refused(*number)),
@@ -354,7 +321,7 @@ impl Comparison {
         let expected = recognizer::write(case.question(), table, work, output);
         let (code, same, what) = match &expected {
             Ok(Written { answered, lines }) => {
-                let mut five = numbers(answered).to_vec();
+                let mut five = answered.numbers(answered.cells).to_vec();
                 five.push(lines.len() as u32);
                 let same = room.holds(&five, &answered.table, &bytes(lines));
                 (0, same, name(answered.outcome))
@@ -385,7 +352,7 @@ impl Comparison {
         );
         let (said, same) = match expected {
             Ok(Written { answered, lines }) => (
-                Ok((answer(answered), lines.len() as u32)),
+                Ok((answered.answer(answered.cells), lines.len() as u32)),
                 room.holds(&[], &answered.table, &bytes(lines)),
             ),
             Err(number) => (Err(*number), room.unchanged()),

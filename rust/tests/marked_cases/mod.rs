@@ -43,6 +43,16 @@ pub const READING: &str = "       2       0       0       1       0       0
        1       0       0       3       1       4
 ";
 
+/// The cells of case a, a row for each variable: outcome and reach at positions 0 to 3.
+pub const CELLS: [[u32; 8]; 6] = [
+    [8, 3, 0, 0, 0, 0, 0, 0],
+    [6, 1, 0, 0, 0, 0, 0, 0],
+    [0, 0, 8, 3, 0, 0, 0, 0],
+    [0, 0, 7, 2, 0, 0, 0, 0],
+    [0, 0, 0, 0, 8, 3, 0, 0],
+    [0, 0, 0, 0, 0, 0, 0, 0],
+];
+
 /// A marked entry: what the question about variable 1 at 0 is answered, and what the verdict is.
 pub struct Case {
     pub sheet: &'static str,

@@ -1,4 +1,4 @@
-//! A recognizer of its own, written from document 01: recursive, with a memo in a hash map.
+//! A recognizer of its own, written from document 01 and, for reaches, order 6 of document 02: recursive, with a memo in a hash map.
 //! Reached pairs and the named pair are found by their definitions, after the outcomes. A refusal is its number; that of a sheet or a verdict has its
 //! line too.
 mod machine;
@@ -7,7 +7,7 @@ mod reading;
 pub use machine::{Ending, Ran, run};
 pub use reading::{FIELDS, LINE, Line, Written, bytes, check, reading, write};
 
-use entryreader::{Code, Pair};
+use entryreader::{Answer, Code, Pair};
 use std::collections::{HashMap, HashSet};
 
 #[derive(Clone, Copy)]
@@ -54,6 +54,37 @@ pub struct Answered {
     pub named: Option<Pair>,
     pub cells: u32,
     pub table: Vec<u32>,
+}
+
+impl Answered {
+    /// What the program is to get of it, with a count of decided cells.
+    pub fn answer(&self, cells: u32) -> Answer {
+        let named = || self.named.expect("only success and failure name no pair");
+        match self.outcome {
+            Outcome::Success(end) => Answer::Success { end, cells },
+            Outcome::Failure => Answer::Failure { cells },
+            Outcome::Loop => Answer::Loop {
+                named: named(),
+                cells,
+            },
+            Outcome::Missing => Answer::Missing {
+                named: named(),
+                cells,
+            },
+            Outcome::End => Answer::End {
+                named: named(),
+                cells,
+            },
+        }
+    }
+
+    /// The numbers that a call leaves of it, with a count of decided cells.
+    pub fn numbers(&self, cells: u32) -> [u32; 4] {
+        let (variable, position) = self
+            .named
+            .map_or((0, 0), |named| (named.variable, named.position));
+        [code(self.outcome), variable, position, cells]
+    }
 }
 
 /// The steps k and the height h of a derivation; k is exact below 2 to the 64th.
@@ -285,8 +316,8 @@ impl<'a> Recognizer<'a> {
         pair
     }
 
-    /// "A leaf of kind 0 or 1 reaches its place; a byte or class rule reaches one past it .. Kind 4 has the greater reach of its two called pairs. Loop,
-    /// missing and end have reach 0."
+    /// "A leaf of kind 0 or 1 reaches its place; a byte or class rule reaches one past it. Kind 4 has the greater reach of its two called pairs.
+    /// Loop, missing and end have reach 0."
     fn reach(&mut self, pair: Pair, reaches: &mut HashMap<Pair, u32>) -> u32 {
         if !self.has_result(pair) {
             return 0;
