@@ -37,9 +37,9 @@ uint32_t entryreader_verdict(
     const uint8_t *input, size_t input_length);
 
 /*
- * The verdict on an entry, over a lent table of twice V times (n + 1) numbers or more and a lent work slice of V times (n + 1). Always returns 0, with four numbers in the answer:
- * the code of the verdict, the named variable or 0, the end or the named position or 0, the count of decided cells; or for a refusal (1 to 7, 10) 9,
- * its number, the line at fault or 0, and 0, with table and work slice as they were.
+ * The verdict on an entry, over a lent table of twice V times (n + 1) numbers or more and a lent work slice of V times (n + 1) or more. Always returns
+ * 0, with four numbers in the answer: the code of the verdict, the named variable or 0, the end or the named position or 0, the count of decided cells;
+ * or for a refusal (1 to 7, 10) 9, its number, the line at fault or 0, and 0, with table and work slice as they were.
  */
 uint32_t entryreader_judge(
     const uint8_t *sheet, size_t sheet_length,
@@ -49,11 +49,12 @@ uint32_t entryreader_judge(
     uint32_t (*answer)[4]);
 
 /*
- * The outcome of a variable (1 to V) at a position (0 to n), over a lent table of twice V times (n + 1) numbers or more and a lent work slice of
- * V times (n + 1). Returns 0, with the outcome's code, the named variable and position (or 0 and 0) and the count of decided cells in the answer; or a
- * refusal (1 to 6, 8 to 10). A cell is two numbers side by side, outcome then reach. The outcome in the cell of variable A at p, number (A - 1) times
- * (n + 1) plus p, is 0 if the question does not reach it, 1 for failure, 2 loop, 3 missing, 4 end, 5 + q for success ending at q; the reach of a success
- * or a failure says how far it looked, and any other is 0.
+ * The outcome of a variable (1 to V) at a position (0 to n), over a lent table of twice V times (n + 1) numbers or more and a lent work slice of V
+ * times (n + 1) or more. Returns 0, with the outcome's code, the named variable and position (or 0 and 0) and the count of decided cells in the answer;
+ * or a refusal (1 to 6, 8 to 10). A cell of the table is two numbers side by side, outcome then reach; that of variable A at p is number (A - 1) times
+ * (n + 1) plus p. Its outcome is 0 if the question does not reach it, 1 for failure, 2 loop, 3 missing, 4 end, 5 + q for success ending at q. Its reach
+ * is how far a success or a failure looked: p for a rule of kind 0 or 1, p + 1 for one of kind 2 or 3, the greater of the two called pairs' for one of
+ * kind 4; any other is 0.
  */
 uint32_t entryreader_question(
     const uint8_t *sheet, size_t sheet_length,
@@ -64,8 +65,9 @@ uint32_t entryreader_question(
     uint32_t (*answer)[4]);
 
 /*
- * The question about an input of which the byte at c was corrected, over the table that a question or a correction left of the input before. Returns as
- * entryreader_question does, with the count of newly decided cells; the refusals are those of the question, 18 and 19.
+ * The question about an input of which the byte at c was corrected, over the table that a question or a correction left of the input before. Kept are
+ * its cells at positions above c, and each success or failure whose reach is at most c. Returns as entryreader_question does, with the count of newly
+ * decided cells; the refusals are those of the question, 18 and 19.
  */
 uint32_t entryreader_correct(
     const uint8_t *sheet, size_t sheet_length,

@@ -77,7 +77,8 @@ pub fn verdict(sheet: &[u8], entry: &[u8]) -> Result<Code, Error> {
     Code::from_number(code).ok_or_else(|| Error::from_code(code))
 }
 
-/// The verdict on an entry, over a lent table of twice V times (n + 1) numbers or more and a lent work slice of V times (n + 1). The table is left as [`question`] leaves it.
+/// The verdict on an entry, over a lent table of twice V times (n + 1) numbers or more and a lent work slice of V times (n + 1) or more. The table is
+/// left as [`question`] leaves it.
 ///
 /// ```
 /// use entryreader::{Verdict, lent::judge};
@@ -98,12 +99,13 @@ pub fn judge(
     Verdict::from_numbers(answer)
 }
 
-/// The outcome of a variable at a position of an entry, over a lent table of twice V times (n + 1) numbers or more and a lent work slice of
-/// V times (n + 1).
+/// The outcome of a variable at a position of an entry, over a lent table of twice V times (n + 1) numbers or more and a lent work slice of V times
+/// (n + 1) or more.
 ///
-/// A cell is two numbers side by side, outcome then reach. Afterwards the outcome in the cell of variable A at p, number (A - 1) times (n + 1) plus p,
-/// is 0 if its pair is not reached, 1 for failure, 2 for loop, 3 for missing, 4 for end, 5 + q for success ending at q; the reach of a success or a
-/// failure says how far it looked, and any other is 0. Later cells are unchanged, and so are later numbers of the work slice.
+/// A cell is two numbers side by side, outcome then reach; that of variable A at p is number (A - 1) times (n + 1) plus p. Afterwards its outcome is 0
+/// if its pair is not reached, 1 for failure, 2 for loop, 3 for missing, 4 for end, 5 + q for success ending at q. Its reach is how far a success or a
+/// failure looked: p for a rule of kind 0 or 1, p + 1 for one that asks for a byte or a class, and the greater of the two called pairs' for one that
+/// calls; any other is 0. Later numbers of both slices are unchanged.
 ///
 /// ```
 /// use entryreader::{Answer, lent::question};
@@ -129,11 +131,12 @@ pub fn question(
 }
 
 /// The outcome of a variable at a position of an entry of which the byte at `c` was corrected, over the table that a question left of the entry
-/// before, or a correction; `cells` is the count of newly decided cells.
+/// before, or a correction; `cells` is the count of newly decided cells. [`Reader::correct`](crate::Reader::correct) keeps entry and table itself.
 ///
-/// Cells at positions up to `c` are blanked, but for a success or a failure whose reach is at most `c`; the others are retained. The answer is then the one that a fresh table gives, and afterwards a cell is
-/// not blank where it was retained so or its pair is reached, and holds its pair's outcome: the table serves for the next correction. From any other
-/// table nothing is promised but that the call ends within its slices. Later cells are unchanged, and so are later numbers of the work slice.
+/// Cells at positions up to `c` are blanked, unless they hold a success or a failure whose reach is at most `c`; the others are retained. The answer
+/// is then the one that a fresh table gives, and afterwards a cell is not blank where it was retained so or its pair is reached, and holds its pair's
+/// outcome and reach: the table serves for the next correction. From any other table nothing is promised but that the call ends within its slices.
+/// Later numbers of both slices are unchanged.
 ///
 /// ```
 /// use entryreader::{Answer, lent::{correct, question}};
@@ -148,6 +151,8 @@ pub fn question(
 /// assert_eq!(question(sheet, b"6.", 1, 0, &mut table, &mut work)?, Answer::Success { end: 2, cells: 3 });
 /// // The byte at 0 is a 9, after all: the full stop behind it is not read again.
 /// assert_eq!(correct(sheet, b"9.", 1, 0, 0, &mut table, &mut work)?, Answer::Success { end: 2, cells: 2 });
+/// // The byte at 1 is a comma: the digit before it is not read again.
+/// assert_eq!(correct(sheet, b"9,", 1, 0, 1, &mut table, &mut work)?, Answer::Failure { cells: 2 });
 /// # Ok::<(), entryreader::Error>(())
 /// ```
 pub fn correct(

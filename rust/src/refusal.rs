@@ -48,7 +48,8 @@ pub enum Refusal {
     Allowance,
     /// 18, of a correction: the corrected byte's position is not below the entry's length.
     Corrected,
-    /// 19, of a correction: a retained cell of the table is over 5 + n, or holds a success that ends left of its place.
+    /// 19, of a correction: a retained cell of the table has an outcome over 5 + n, a success that ends left of its place, or a success or a failure
+    /// whose reach is below its place.
     Cell,
 }
 
