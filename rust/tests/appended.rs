@@ -47,8 +47,8 @@ impl Case {
     /// The question about one of the two entries, over slices of just enough numbers that hold anything; or the number of its refusal.
     fn question(&self, random: &mut Random, entry: &[u8], asked: Pair) -> Result<Said, u32> {
         let cells = self.variables as usize * (entry.len() + 1);
-        let mut slice = || vec![random.below(1 << 31) as u32; 2 * cells];
-        let (mut table, mut work) = (slice(), slice());
+        let mut slice = |length| vec![random.below(1 << 31) as u32; length];
+        let (mut table, mut work) = (slice(2 * cells), slice(cells));
         let mut answer = [0; 4];
         let returned = test_calls::question(
             &self.sheet,

@@ -4,7 +4,7 @@
 mod marked_cases;
 
 use entryreader::{Answer, Claim, Error, Pair, Verdict, lent};
-use marked_cases::{H, READING};
+use marked_cases::{CELLS, H, READING};
 use std::collections::BTreeMap;
 use std::fmt::Write as _;
 use std::io::Write as _;
@@ -145,12 +145,12 @@ impl Printed {
     }
 
     fn fill(&mut self) {
-        self.table = vec![7; 1024];
+        self.table = vec![7; 2 * 1024];
         self.work = vec![7; 1024];
     }
 
     fn table(&mut self) {
-        print(&mut self.text, "table", &self.table[..32]);
+        print(&mut self.text, "table", &self.table[..64]);
     }
 
     /// The sheet of a text of the shorthand; or the bytes themselves.
@@ -257,6 +257,18 @@ fn marked_entries_in_c() {
     assert_eq!(found[lines.len()], "verdict 0:");
     let written = format!("write 0: 8 0 0 5 5\n{READING}check 0: 8 3\n");
     assert!(text.contains(&written), "{text}");
+    assert!(text.contains(&cells_of_a()), "{text}");
+}
+
+/// Case a asked, and corrected at 0 to what it is: two cells are decided anew, and the table is the same.
+fn cells_of_a() -> String {
+    let mut text = String::new();
+    let table = [&CELLS.concat()[..], &[7; 16]].concat();
+    for (name, cells) in [("question", 5), ("correct", 2)] {
+        report(&mut text, name, 0, &[8, 0, 0, cells]);
+        print(&mut text, "table", &table);
+    }
+    text
 }
 
 /// The header is one of C++ too.

@@ -153,9 +153,11 @@ fn eight_and_nine() {
 
 #[test]
 fn ten_room() {
-    question_refused(GOOD.as_bytes(), b"aa", 2, 2, 5, 6, 10);
-    question_refused(GOOD.as_bytes(), b"aa", 2, 2, 6, 5, 10);
-    question_refused(GOOD.as_bytes(), b"aa", 2, 2, 0, 0, 10);
+    for (table, work) in [(11, 6), (12, 5), (6, 12), (0, 0)] {
+        question_refused(GOOD.as_bytes(), b"aa", 2, 2, table, work, 10);
+    }
+    let end = lent::question(GOOD.as_bytes(), b"aa", 2, 2, &mut [0; 12], &mut [0; 6]);
+    assert!(end.is_ok());
     let mut entry = vec![b'a'; 511];
     *entry.last_mut().unwrap() = b'.';
     assert_eq!(verdict(GOOD.as_bytes(), &entry), Ok(Code::Partial));

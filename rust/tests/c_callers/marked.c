@@ -8,11 +8,11 @@
 #include <stdio.h>
 #include <string.h>
 
-enum { BYTES = 8192, CELLS = 1024, SHOWN = 32, LINE = 49 };
+enum { BYTES = 8192, CELLS = 1024, NUMBERS = 2 * CELLS, SHOWN = 64, LINE = 49 };
 
 static uint8_t sheet[BYTES], entry[BYTES], output[LINE * CELLS];
 static size_t sheet_length, entry_length;
-static uint32_t table[CELLS], work[CELLS], words[256];
+static uint32_t table[NUMBERS], work[CELLS], words[256];
 
 static int take(uint8_t *bytes, size_t *length)
 {
@@ -43,7 +43,7 @@ static void report(const char *name, uint32_t returned, const uint32_t *numbers,
 
 static void lend(uint32_t *answer, size_t count)
 {
-    fill(table, CELLS);
+    fill(table, NUMBERS);
     fill(work, CELLS);
     fill(answer, count);
 }
@@ -75,7 +75,7 @@ static void verdicts(void)
     report("verdict", entryreader_verdict(sheet, sheet_length, entry, entry_length), NULL, 0);
     lend(answer, 4);
     uint32_t returned = entryreader_judge(
-        sheet, sheet_length, entry, entry_length, table, CELLS, work, CELLS, &answer);
+        sheet, sheet_length, entry, entry_length, table, NUMBERS, work, CELLS, &answer);
     report("judge", returned, answer, 4);
     print("table", table, SHOWN);
 }
@@ -86,12 +86,12 @@ static void questions(void)
     uint32_t answer[4];
     lend(answer, 4);
     uint32_t returned = entryreader_question(
-        sheet, sheet_length, entry, entry_length, 1, 0, table, CELLS, work, CELLS, &answer);
+        sheet, sheet_length, entry, entry_length, 1, 0, table, NUMBERS, work, CELLS, &answer);
     report("question", returned, answer, 4);
     print("table", table, SHOWN);
     fill(answer, 4);
     returned = entryreader_correct(
-        sheet, sheet_length, entry, entry_length, 1, 0, 0, table, CELLS, work, CELLS, &answer);
+        sheet, sheet_length, entry, entry_length, 1, 0, 0, table, NUMBERS, work, CELLS, &answer);
     report("correct", returned, answer, 4);
     print("table", table, SHOWN);
 }
@@ -103,7 +103,7 @@ static void reading(void)
     lend(written, 5);
     memset(output, 7, sizeof output);
     uint32_t returned = entryreader_write(
-        sheet, sheet_length, entry, entry_length, 1, 0, table, CELLS, work, CELLS, output, sizeof output, &written);
+        sheet, sheet_length, entry, entry_length, 1, 0, table, NUMBERS, work, CELLS, output, sizeof output, &written);
     report("write", returned, written, 5);
     size_t length = returned == 0 ? LINE * (size_t)written[4] : 0;
     fwrite(output, 1, length, stdout);

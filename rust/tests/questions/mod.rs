@@ -202,6 +202,7 @@ pub fn case(random: &mut Random) -> Case {
             random.pick(&[40, 79, 80, 255, 256]),
             random.pick(&[0, 3, 11, 12, 13]),
         ),
+        9..15 => (6 + random.below(19), 100 + random.index(200)),
         _ => (1 + random.below(16), random.index(13)),
     };
     let mut sheet = sheet(random, variables);
