@@ -37,6 +37,8 @@ pub fn table() {
         sheets::run(4095),
         sheets::wide(200, 4095),
         society::short_lines(),
+        society::one_line(1),
+        society::one_line(0),
         society::long_lines(3000),
         society::classes(3000),
     ];

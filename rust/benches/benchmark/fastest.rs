@@ -1,9 +1,13 @@
 //! The fastest unverified variant that was found, written to win: a rule is one word, read straight from the sheet; fields and classes are looked up in
 //! tables; callers stand one above the other in the work slice, a called leaf is settled in place, first and second call are one straight line of code;
-//! no index is checked, and the cells are counted in the walk.
+//! no index is checked, and the cells are counted in the walk. Reaches are looked at where a pair is settled only: a blank cell has reach 0, and so has
+//! one that is open.
 use crate::plain;
 
 const OPEN: u32 = u32::MAX;
+
+/// A cell of the table: outcome, then reach.
+type Cell = [u32; 2];
 
 /// The last four of five columns for each number below 256, the first column lowest.
 static WRITTEN: [u32; 256] = written();
@@ -109,13 +113,13 @@ fn read(text: &[u8]) -> Option<(u32, [u32; 256])> {
     ends.then_some((variables, words))
 }
 
-/// A cell's code, 3 and 4 for missing and end.
+/// What the cell of a leaf holds.
 #[inline(always)]
-unsafe fn leaf(word: u32, entry: &[u8], position: u32) -> u32 {
+unsafe fn leaf(word: u32, entry: &[u8], position: u32) -> Cell {
     let kind = word >> 24;
     if kind == 3 || kind == 4 {
         if position as usize >= entry.len() {
-            return 4;
+            return [4, 0];
         }
         // SAFETY: the position is below the length.
         let byte = unsafe { *entry.get_unchecked(position as usize) };
@@ -124,46 +128,48 @@ unsafe fn leaf(word: u32, entry: &[u8], position: u32) -> u32 {
         } else {
             byte
         };
-        return if u32::from(seen) == (word >> 16 & 255) {
+        let outcome = if u32::from(seen) == (word >> 16 & 255) {
             6 + position
         } else {
             1
         };
+        return [outcome, position + 1];
     }
     match kind {
-        1 => 5 + position,
-        2 => 1,
-        _ => 3,
+        1 => [5 + position, position],
+        2 => [1, position],
+        _ => [3, 0],
     }
 }
 
-/// Looks a called pair up; if it is to be opened it becomes the latest open pair, and the walk goes on with it.
+/// Looks a called pair up: its outcome, and the number of its cell. If it is to be opened it becomes the latest open pair, and the walk goes on with it.
 macro_rules! look_up {
     ($walk:lifetime, $state:expr, $called:expr) => {{
         let (words, entry, table, work, width, top, depth, count) = $state;
         let (variable, position): (u32, u32) = $called;
         let index = variable as usize * width + position as usize;
-        let mut value = *table.get_unchecked(index);
-        if value == 0 {
+        let mut outcome = table.get_unchecked(index)[0];
+        if outcome == 0 {
             *count += 1;
             let rule = *words.get_unchecked(variable as usize);
             if rule >> 24 == 5 {
-                *table.get_unchecked_mut(index) = OPEN;
+                table.get_unchecked_mut(index)[0] = OPEN;
                 *work.get_unchecked_mut(*depth) = top.0 << 13 | top.1;
                 *depth += 1;
                 *top = (variable, position);
                 continue $walk;
             }
-            value = leaf(rule, entry, position);
-            *table.get_unchecked_mut(index) = value;
-            if value == 3 || value == 4 {
-                break $walk (value, (variable + 1, position));
+            let settled = leaf(rule, entry, position);
+            *table.get_unchecked_mut(index) = settled;
+            outcome = settled[0];
+            if outcome == 3 || outcome == 4 {
+                break $walk (outcome, (variable + 1, position));
             }
         }
-        if value == OPEN {
+        if outcome == OPEN {
             break $walk (2, (variable + 1, position));
         }
-        value
+        (outcome, index)
     }};
 }
 
@@ -182,7 +188,7 @@ unsafe fn walk(
     words: &[u32; 256],
     entry: &[u8],
     asked: (u32, u32),
-    table: &mut [u32],
+    table: &mut [Cell],
     work: &mut [u32],
 ) -> End {
     unsafe {
@@ -201,7 +207,7 @@ unsafe fn walk(
                 &mut depth,
                 &mut count,
             );
-            let first = look_up!('walk, state, called);
+            let (first, first_index) = look_up!('walk, state, called);
             let called = if first == 1 {
                 (word & 255, top.1)
             } else {
@@ -217,10 +223,12 @@ unsafe fn walk(
                 &mut depth,
                 &mut count,
             );
-            let value = look_up!('walk, state, called);
-            *table.get_unchecked_mut(top.0 as usize * width + top.1 as usize) = value;
+            let (second, second_index) = look_up!('walk, state, called);
+            let [reach, other] = [first_index, second_index].map(|i| table.get_unchecked(i)[1]);
+            let index = top.0 as usize * width + top.1 as usize;
+            *table.get_unchecked_mut(index) = [second, reach.max(other)];
             if depth == 0 {
-                break (value, (0, 0));
+                break (second, (0, 0));
             }
             depth -= 1;
             let caller = *work.get_unchecked(depth);
@@ -236,7 +244,7 @@ unsafe fn walk(
     }
 }
 
-/// The cell's code, the named pair and the count.
+/// The outcome's code, the named pair and the count.
 pub fn question(
     sheet: &[u8],
     entry: &[u8],
@@ -247,18 +255,20 @@ pub fn question(
     let (variables, words) = read(sheet).expect("an accepted sheet");
     let width = entry.len() + 1;
     let size = variables as usize * width;
-    assert!(size <= table.len() && size <= work.len());
-    table[..size].fill(0);
+    let table = &mut table.as_chunks_mut().0[..size];
+    assert!(size <= work.len());
+    table.fill([0, 0]);
     let asked = (asked.0 - 1, asked.1);
     let cell = |(variable, position): (u32, u32)| variable as usize * width + position as usize;
     assert!(words[asked.0 as usize] >> 24 == 5, "a rule that calls");
-    table[cell(asked)] = OPEN;
-    // SAFETY: variables are below V, positions at most the entry's length, and open cells distinct, so that no more than V times (n + 1) callers are noted.
+    table[cell(asked)][0] = OPEN;
+    // SAFETY: variables are below V, positions at most the entry's length, and open cells distinct, so that no more than V times (n + 1) callers are
+    // noted.
     let end = unsafe { walk(&words, entry, asked, table, work) };
     if (2..=4).contains(&end.code) {
-        table[cell(end.top)] = end.code;
+        table[cell(end.top)][0] = end.code;
         for caller in &work[..end.depth] {
-            table[cell((caller >> 13, caller & 8191))] = end.code;
+            table[cell((caller >> 13, caller & 8191))][0] = end.code;
         }
     }
     [end.code, end.named.0, end.named.1, end.count]

@@ -25,7 +25,7 @@ const PAIR: Pair = Pair {
     position: 0,
 };
 
-/// A table and a work slice of the cells that a question needs. They begin half a page apart.
+/// A table of so many cells, two numbers each, and a work slice of as many numbers. They begin half a page apart.
 struct Room {
     table: Vec<u32>,
     work: Vec<u32>,
@@ -33,18 +33,22 @@ struct Room {
 }
 
 impl Room {
-    fn new(question: &Question) -> Room {
-        let cells = question.cells();
+    fn of(cells: usize) -> Room {
         Room {
-            table: vec![0; cells + 1024],
+            table: vec![0; 2 * cells + 1024],
             work: vec![0; cells + 1024],
             cells,
         }
     }
 
+    /// What a question needs.
+    fn new(question: &Question) -> Room {
+        Room::of(question.cells())
+    }
+
     fn slices(&mut self) -> (&mut [u32], &mut [u32]) {
         (
-            from_offset(&mut self.table, 64, self.cells),
+            from_offset(&mut self.table, 64, 2 * self.cells),
             from_offset(&mut self.work, 2112, self.cells),
         )
     }
@@ -100,19 +104,19 @@ fn asking<'a>(name: &'static str, call: Call, question: &'a Question) -> Subject
     (name, Box::new(run))
 }
 
-/// The cell's code and the count of decided cells, on which all three agree.
+/// The outcome's code and the count of decided cells. All three calls agree on the answer, and on both numbers of every cell.
 fn answer(question: &Question) -> (u32, f64) {
-    let answers = CALLS.map(|(_, call)| {
+    let said = CALLS.map(|(_, call)| {
         let mut room = Room::new(question);
         let (table, work) = room.slices();
-        call(&question.sheet, &question.entry, table, work)
+        table.fill(7);
+        let answer = call(&question.sheet, &question.entry, table, work);
+        (answer, table.to_vec())
     });
-    assert!(
-        answers.iter().all(|answer| *answer == answers[0]),
-        "{}",
-        question.name
-    );
-    (answers[0][0], answers[0][3].into())
+    let [proved, twins @ ..] = &said;
+    assert!(twins.iter().all(|twin| twin == proved), "{}", question.name);
+    let [code, _, _, cells] = proved.0;
+    (code, cells.into())
 }
 
 fn counted(instructions: Option<f64>, units: f64) -> String {
@@ -387,10 +391,8 @@ fn peers_table() {
         .trim()
         .parse()
         .expect("a number");
-    let cells = variables * (longest + 1);
-    let (mut table, mut work) = (vec![0; cells + 1024], vec![0; cells + 1024]);
-    let table = from_offset(&mut table, 64, cells);
-    let work = from_offset(&mut work, 2112, cells);
+    let mut room = Room::of(variables * (longest + 1));
+    let (table, work) = room.slices();
     let mut times = [const { Vec::new() }; 3];
     for _ in 0..11 {
         let start = std::time::Instant::now();

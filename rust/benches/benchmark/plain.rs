@@ -86,6 +86,10 @@ pub fn read(text: &[u8]) -> Option<Sheet> {
     Some(Sheet { variables, rules })
 }
 
+/// A cell of the table: outcome, then reach.
+type Cell = [u32; 2];
+
+/// The outcome of a pair that is asked and not decided yet.
 const OPEN: u32 = u32::MAX;
 
 /// A rule's outcome where it calls nothing: a cell's code, 3 and 4 for missing and end.
@@ -101,9 +105,14 @@ pub fn leaf(rule: Rule, entry: &[u8], position: u32) -> u32 {
     }
 }
 
+/// How far a rule looks that calls nothing, where it has a result.
+fn leaf_reach(rule: Rule, position: u32) -> u32 {
+    position + u32::from(matches!(rule, Rule::Byte(_) | Rule::Class(_)))
+}
+
 /// A table over the cells of an entry, and how many were opened.
 struct Table<'a> {
-    cells: &'a mut [u32],
+    cells: &'a mut [Cell],
     width: usize,
     count: u32,
 }
@@ -113,29 +122,30 @@ impl Table<'_> {
         (variable as usize - 1) * self.width + position as usize
     }
 
-    fn get(&self, pair: (u32, u32)) -> u32 {
+    fn get(&self, pair: (u32, u32)) -> Cell {
         self.cells[self.index(pair)]
     }
 
-    fn set(&mut self, pair: (u32, u32), code: u32) {
+    fn set(&mut self, pair: (u32, u32), cell: Cell) {
         let index = self.index(pair);
-        self.cells[index] = code;
+        self.cells[index] = cell;
     }
 
     fn open(&mut self, pair: (u32, u32)) {
         self.count += 1;
-        self.set(pair, OPEN);
+        self.set(pair, [OPEN, 0]);
     }
 
-    /// The pair that a pair calls next, and what its cell holds.
-    fn called(&self, position: u32, (b, c, d): (u32, u32, u32)) -> ((u32, u32), u32) {
+    /// The pair that a pair calls next, and what its cell holds; of the second one with the greater reach of the two.
+    fn called(&self, position: u32, (b, c, d): (u32, u32, u32)) -> ((u32, u32), Cell) {
         let first = (b, position);
-        let second = match self.get(first) {
-            value @ (0 | OPEN) => return (first, value),
-            1 => (d, position),
-            code => (c, code - 5),
+        let (second, reach) = match self.get(first) {
+            cell @ [0 | OPEN, _] => return (first, cell),
+            [1, reach] => ((d, position), reach),
+            [code, reach] => ((c, code - 5), reach),
         };
-        (second, self.get(second))
+        let [code, other] = self.get(second);
+        (second, [code, reach.max(other)])
     }
 }
 
@@ -154,31 +164,31 @@ fn walk(
     let mut top = asked;
     table.open(top);
     loop {
-        let value = match sheet.rules[top.0 as usize - 1] {
+        let cell = match sheet.rules[top.0 as usize - 1] {
             Rule::Calls(b, c, d) => match table.called(top.1, (b, c, d)) {
-                (called, OPEN) => return (2, called, top),
-                (called, 0) => {
+                (called, [OPEN, _]) => return (2, called, top),
+                (called, [0, _]) => {
                     table.open(called);
                     work[table.index(called)] = top.0 * 8192 + top.1;
                     top = called;
                     continue;
                 }
-                (_, value) => value,
+                (_, cell) => cell,
             },
             rule => match leaf(rule, entry, top.1) {
                 stop @ 3..=4 => return (stop, top, top),
-                value => value,
+                code => [code, leaf_reach(rule, top.1)],
             },
         };
-        table.set(top, value);
+        table.set(top, cell);
         if top == asked {
-            return (value, (0, 0), top);
+            return (cell[0], (0, 0), top);
         }
         top = caller(work[table.index(top)]);
     }
 }
 
-/// The cell's code, the named pair and the count.
+/// The outcome's code, the named pair and the count.
 pub fn question(
     sheet: &[u8],
     entry: &[u8],
@@ -189,8 +199,8 @@ pub fn question(
     let sheet = read(sheet).expect("an accepted sheet");
     let width = entry.len() + 1;
     let size = sheet.variables as usize * width;
-    let cells = &mut table[..size];
-    cells.fill(0);
+    let cells = &mut table.as_chunks_mut().0[..size];
+    cells.fill([0, 0]);
     let mut table = Table {
         cells,
         width,
@@ -198,10 +208,10 @@ pub fn question(
     };
     let (code, named, mut top) = walk(&sheet, entry, asked, &mut table, &mut work[..size]);
     if (2..=4).contains(&code) {
-        table.set(top, code);
+        table.set(top, [code, 0]);
         while top != asked {
             top = caller(work[table.index(top)]);
-            table.set(top, code);
+            table.set(top, [code, 0]);
         }
     }
     [code, named.0, named.1, table.count]

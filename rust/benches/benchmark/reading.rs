@@ -56,7 +56,7 @@ pub fn write(
     let mut lines = 0;
     let mut open = vec![asked];
     while let Some(pair) = open.last().copied() {
-        let calls = called(&sheet, pair, |pair| table[cell(pair)]);
+        let calls = called(&sheet, pair, |pair| table[2 * cell(pair)]);
         let missing = calls.and_then(|calls| calls.into_iter().find(|pair| work[cell(*pair)] == 0));
         if let Some(pair) = missing {
             open.push(pair);
@@ -64,7 +64,7 @@ pub fn write(
         }
         open.pop();
         let [first, second] = calls.map_or([0, 0], |calls| calls.map(|pair| work[cell(pair)]));
-        let (flag, end) = match table[cell(pair)] {
+        let (flag, end) = match table[2 * cell(pair)] {
             1 => (1, pair.1),
             code => (0, code - 5),
         };

@@ -171,10 +171,15 @@ fn lines(name: &'static str, text: &str) -> Question {
     }
 }
 
-/// One line of the register.
+/// A short line of the register.
 pub fn short_lines() -> Question {
     let text = "buried 3 December 1790, Ann Hobbs, aged 3 months.";
     lines("register lines, V = 251", text)
+}
+
+/// One line of the page: 80 bytes for number 0, 65 for number 1.
+pub fn one_line(number: usize) -> Question {
+    lines("register lines, V = 251", &(line(number) + "."))
 }
 
 /// A page of lines as one entry, of at most so many bytes.
