@@ -1,28 +1,40 @@
-//! One byte corrected: chains of corrections beside the separate recognizer, refusals, and tables that no call left.
+//! One byte corrected: chains of corrections beside the separate recognizer, how few cells they decide, refusals, and tables that no call left.
+mod kept;
 #[allow(dead_code)] // Other tests lend other slices.
 mod lent;
+#[allow(dead_code)] // Other tests ask the other cases.
+mod marked_cases;
+#[allow(dead_code)] // It is a twin of the question.
+#[path = "../benches/benchmark/plain.rs"]
+mod plain;
 #[allow(dead_code, unused_imports)] // Other tests damage sheets, and make readings.
 mod questions;
 mod random;
 #[allow(dead_code, unused_imports)] // Other tests run the machine, and check readings.
 mod recognizer;
+#[allow(dead_code)] // Other sheets are measured with.
+#[path = "../benches/benchmark/sheets.rs"]
+mod sheets;
+#[allow(dead_code)] // Other sheets are measured with.
+#[path = "../benches/benchmark/society.rs"]
+mod society;
 
 use entryreader::{Answer, Pair, Refusal, test_calls};
+use kept::{BLANK, Cell, Correction, Fault, SUCCESS};
 use lent::Lent;
 use random::Random;
 use recognizer::{Answered, Question, code, with_deep_stack};
+use std::collections::{BTreeMap, BTreeSet};
 use std::io::Write;
 
 /// The code of a loop.
 const LOOP: u32 = 2;
 
-/// The code of a success ending at 0; no other outcome has a code as great.
-const SUCCESS: u32 = 5;
-
-/// "success and failure cells (1, and 5 or more)"
-fn is_result(outcome: u32) -> bool {
-    outcome == 1 || SUCCESS <= outcome
-}
+/// The start of a sheet whose start is 1.
+const START: Pair = Pair {
+    variable: 1,
+    position: 0,
+};
 
 /// The four numbers of an answer, or the number of a refusal.
 type Said = Result<[u32; 4], u32>;
@@ -95,33 +107,17 @@ impl Case {
             .unwrap_or_else(|number| panic!("{number}: {self}"))
     }
 
-    /// The cells of a table, outcome and reach, each with its place; without later numbers.
-    fn cells_of(&self, table: &[u32]) -> Vec<(u32, [u32; 2])> {
-        let row = self.entry.len() + 1;
-        let cells = table[..2 * self.cells()].chunks(2).enumerate();
-        cells
-            .map(|(i, cell)| ((i % row) as u32, [cell[0], cell[1]]))
-            .collect()
+    /// What document 02 says of the correction.
+    fn by_document(&self) -> Correction {
+        Correction {
+            n: self.entry.len() as u32,
+            c: self.c,
+        }
     }
 
-    /// Does a cell stay: "success and failure cells (1, and 5 or more) with reach at most c stay also"?
-    fn stays(&self, place: u32, [outcome, reach]: [u32; 2]) -> bool {
-        self.c < place || (is_result(outcome) && reach <= self.c)
-    }
-
-    /// What a correction retains of the cells.
-    fn retained(&self, table: &[u32]) -> Vec<u32> {
-        let retained = |(place, cell)| {
-            if self.stays(place, cell) {
-                cell
-            } else {
-                [0, 0]
-            }
-        };
-        self.cells_of(table)
-            .into_iter()
-            .flat_map(retained)
-            .collect()
+    /// The cells of a table, without later numbers.
+    fn first<'a>(&self, table: &'a [u32]) -> &'a [u32] {
+        &table[..2 * self.cells()]
     }
 
     /// The call itself.
@@ -138,11 +134,22 @@ impl Case {
         )
     }
 
-    /// A correction over a table of these numbers, with guards around everything: after a refusal all is as it was, and else nothing changes
-    /// beyond the first V times (n + 1) numbers and the code is at most 5 + n.
+    /// A correction over a table of these numbers and a work slice that is longer than it needs to be.
     fn correction(&self, random: &mut Random, asked: Pair, table: &mut Vec<u32>) -> Said {
+        self.correction_over(random, asked, table, self.cells() + 3)
+    }
+
+    /// A correction over a table of these numbers and so many numbers of work slice, with guards around everything: after a refusal all is as it was,
+    /// and else nothing changes beyond the first V times (n + 1) cells of the table and numbers of the work slice, and the code is at most 5 + n.
+    fn correction_over(
+        &self,
+        random: &mut Random,
+        asked: Pair,
+        table: &mut Vec<u32>,
+        work: usize,
+    ) -> Said {
         let mut lent = Lent::of(random, table);
-        let mut work = Lent::any(random, self.cells() + 3);
+        let mut work = Lent::any(random, work);
         let mut answer = Lent::<u32>::any(random, 4);
         let returned = self.call(asked, lent.slice(), work.slice(), answer.array());
         if returned != 0 {
@@ -189,62 +196,55 @@ impl std::fmt::Display for Case {
     }
 }
 
-/// The four numbers that a correction must give where the cells held these before, and the cells that it must leave.
-fn expected(found: &Answered, start: &[u32]) -> ([u32; 4], Vec<u32>) {
-    let reached = found.table.chunks(2).zip(start.chunks(2));
-    let cells = reached
-        .clone()
-        .flat_map(|(new, old)| if new[0] == 0 { old } else { new })
-        .copied();
-    let newly = reached
-        .clone()
-        .filter(|(new, old)| new[0] != 0 && old[0] == 0);
-    let named = found.named.unwrap_or(Pair {
-        variable: 0,
-        position: 0,
-    });
-    let four = [
-        code(found.outcome),
-        named.variable,
-        named.position,
-        newly.count() as u32,
-    ];
-    (four, cells.collect())
-}
-
-/// How often each was met: outcomes by their code, every success as 5; retained cells of 2, 3 and 4 whose pair is reached; loops that begin right of
-/// the corrected byte; corrections that decide fewer cells than are reached; corrections over the table of a correction.
+/// How often each was met. By codes, every success as 5: outcomes; and what a cell held whose pair is reached, where it was retained at a position above
+/// c, where it was retained for its reach, and where it was blanked. Loops that begin right of the corrected byte; corrections that decide fewer cells
+/// than are reached; corrections over the table of a correction.
 #[derive(Debug, Default)]
 struct Met {
     outcomes: [u64; 6],
-    retained: [u64; 6],
+    above: [u64; 6],
+    by_reach: [u64; 6],
+    blanked: [u64; 6],
     loops_right: u64,
     fewer: u64,
     chained: u64,
 }
 
 impl Met {
-    /// One correction, with the answer, the count and all cells as the recognizer's definitions say.
-    fn correction(&mut self, random: &mut Random, case: &Case, asked: Pair, table: &mut Vec<u32>) {
+    /// One correction, with the answer, the count and all cells as the recognizer's definitions say. The count.
+    fn correction(
+        &mut self,
+        random: &mut Random,
+        case: &Case,
+        asked: Pair,
+        table: &mut Vec<u32>,
+    ) -> u32 {
         let found = case.answered(asked);
-        let start = case.retained(table);
-        let (four, cells) = expected(&found, &start);
-        let later = table[2 * case.cells()..].to_vec();
+        let before = table.clone();
+        let start = case.by_document().retained(case.first(table));
+        let (cells, newly) = kept::left(&found.table, &start);
+        let later = &before[2 * case.cells()..];
         let said = case.correction(random, asked, table);
-        assert_eq!(said, Ok(four), "{asked:?} {case}");
-        assert_eq!(*table, [cells, later].concat(), "{asked:?} {case}");
-        self.note(case, asked, &found, &start);
-        self.fewer += u64::from(four[3] < found.cells);
+        assert_eq!(said, Ok(found.numbers(newly)), "{asked:?} {case}");
+        assert_eq!(*table, [&cells, later].concat(), "{asked:?} {case}");
+        self.note(case, asked, &found, case.first(&before));
+        self.fewer += u64::from(newly < found.cells);
+        newly
     }
 
-    fn note(&mut self, case: &Case, asked: Pair, found: &Answered, start: &[u32]) {
+    fn note(&mut self, case: &Case, asked: Pair, found: &Answered, before: &[u32]) {
+        let correction = case.by_document();
+        let reached = correction.cells(before).zip(found.table.chunks(2));
+        for ((place, cell), _) in reached.filter(|(_, new)| new[0] != 0) {
+            let met = match (case.c < place, correction.stays(place, cell)) {
+                (true, _) => &mut self.above,
+                (false, true) => &mut self.by_reach,
+                (false, false) => &mut self.blanked,
+            };
+            met[cell[0].min(SUCCESS) as usize] += 1;
+        }
         let outcome = code(found.outcome);
         self.outcomes[outcome.min(SUCCESS) as usize] += 1;
-        for (new, old) in found.table.chunks(2).zip(start.chunks(2)) {
-            if new[0] != 0 {
-                self.retained[old[0].min(SUCCESS) as usize] += 1;
-            }
-        }
         self.loops_right += u64::from(outcome == LOOP && case.c < asked.position);
     }
 
@@ -262,10 +262,12 @@ impl Met {
         }
     }
 
-    /// Each was met more often than this.
+    /// Each was met more often than this; of the cells that are retained for their reach success and failure.
     fn assert_met(&self, often: u64) {
+        let by_reach = [self.by_reach[1], self.by_reach[SUCCESS as usize]];
         let counts = [self.loops_right, self.fewer, self.chained];
-        let met = [&self.outcomes[1..], &self.retained[1..], &counts].concat();
+        let of_codes = [&self.outcomes, &self.above, &self.blanked].map(|met| &met[1..]);
+        let met = [&of_codes.concat()[..], &by_reach, &counts].concat();
         assert!(met.into_iter().all(|met| often < met), "{self:?}");
     }
 }
@@ -349,6 +351,35 @@ fn retained_loops() {
     assert_eq!(left_of_it, Ok([2, 3, 1, 3]));
 }
 
+/// A loop, a missing rule and an end at or left of the corrected byte are blanked although their reach is 0, and decided anew.
+#[test]
+fn blanked_loops() {
+    let mut random = Random(28);
+    let pair = |variable, position| Pair { variable, position };
+    for (asked, said) in [(pair(3, 0), [2, 3, 0, 1]), (pair(4, 0), [3, 4, 0, 1])] {
+        let mut table = loops(b"xaa", 2).question(&mut random, asked);
+        let said_again = loops(b"xab", 2).correction(&mut random, asked, &mut table);
+        assert_eq!(said_again, Ok(said), "{asked:?}");
+        let other = loops(b"xac", 2).correction(&mut random, pair(2, 0), &mut table);
+        assert_eq!(other, Ok([1, 0, 0, 1]));
+        // What is left is variable 2 at 0, the first of the second row: it looked at one byte.
+        let mut cells = [0; 40];
+        [cells[8], cells[9]] = [1, 1];
+        assert_eq!(table[..40], cells);
+    }
+    // Case e: 1, 3 and 5 have the end, of which 5 stands behind the corrected byte.
+    let mut case = Case {
+        sheet: marked_cases::H.as_bytes().to_vec(),
+        entry: b"-6".to_vec(),
+        variables: 6,
+        c: 1,
+    };
+    let mut table = case.question(&mut random, START);
+    case.entry[1] = b'7';
+    let said = case.correction(&mut random, START, &mut table);
+    assert_eq!(said, Ok([4, 5, 2, 3]));
+}
+
 /// The safe call, over a blank table but for the last cell: each answer, and the two refusals of its own.
 #[test]
 fn safe_call() {
@@ -379,22 +410,6 @@ fn safe_call() {
     }
 }
 
-/// The first of 18 and 19 that holds, where the question is accepted.
-fn refused(case: &Case, table: &[u32]) -> Option<u32> {
-    let n = case.entry.len();
-    if n as u64 <= u64::from(case.c) {
-        return Some(18);
-    }
-    let out = |(place, cell): (u32, [u32; 2])| {
-        let [outcome, reach] = cell;
-        let end = outcome.checked_sub(5);
-        let end_out = end.is_some_and(|end| (n as u32) < end || end < place);
-        case.stays(place, cell) && (end_out || (is_result(outcome) && reach < place))
-    };
-    let any = case.cells_of(table).into_iter().any(out);
-    any.then_some(19)
-}
-
 /// A number that may stand in a cell at a place of an entry of n bytes: most are in range.
 fn number(random: &mut Random, place: usize, n: usize) -> u32 {
     let (place, n) = (place as u32, n as u32);
@@ -418,11 +433,11 @@ fn reach(random: &mut Random, place: usize, n: usize) -> u32 {
 }
 
 /// Any table: refused with 18 or 19 exactly where their conditions hold, else the call ends within its slices; the same with the table of another sheet
-/// or another entry.
+/// or another entry. What brings a table under 19 was met as its one fault, at positions above c and up to c.
 #[test]
 fn any_table() {
     let mut random = Random(19);
-    let mut met = [0u64; 3];
+    let (mut met, mut alone) = ([0u64; 3], BTreeMap::<_, u64>::new());
     for _ in 0..60_000 {
         let variables = 1 + random.below(10);
         let length = 1 + random.index(10);
@@ -434,72 +449,248 @@ fn any_table() {
         let asked = case.pair(&mut random);
         let mut table = match random.below(4) {
             0 => Case::random(&mut random, variables, length).question(&mut random, asked),
-            _ => (0..case.cells() + 2)
-                .map(|i| i % (length + 1))
-                .flat_map(|place| {
-                    [
-                        number(&mut random, place, length),
-                        reach(&mut random, place, length),
-                    ]
-                })
-                .collect(),
+            _ => any_cells(&mut random, case.cells() + 2, length),
         };
-        let refused = refused(&case, &table);
+        let correction = case.by_document();
+        let faults: Vec<(Fault, bool)> = correction
+            .cells(case.first(&table))
+            .filter_map(|(place, cell)| Some((correction.fault(place, cell)?, case.c < place)))
+            .collect();
+        let refused = correction.refused(case.first(&table));
         let said = case.correction(&mut random, asked, &mut table);
         assert_eq!(said.err(), refused, "{asked:?} {case}");
         met[refused.map_or(0, |number| number as usize - 17)] += 1;
+        if let (Some(19), [fault]) = (refused, &faults[..]) {
+            *alone.entry(*fault).or_default() += 1;
+        }
     }
     assert!(met.into_iter().all(|met| 1_000 < met), "{met:?}");
+    assert_eq!(alone.len(), 6, "{alone:?}");
+    assert!(alone.values().all(|met| 100 < *met), "{alone:?}");
 }
 
-/// An entry of 3 bytes under one rule: V is 1, and its cells are numbers 0 to 3. The byte at 1 was corrected.
-fn four_cells(table: [u32; 4], c: u32) -> Said {
-    let lines = [[1, 1, 46, 0, 0], [1, 2, 97, 0, 0]];
-    let case = Case {
+/// So many cells of an entry of n bytes.
+fn any_cells(random: &mut Random, cells: usize, n: usize) -> Vec<u32> {
+    let places = (0..=n).cycle().take(cells);
+    let cell = |place| [number(random, place, n), reach(random, place, n)];
+    places.flat_map(cell).collect()
+}
+
+/// The entry `aaaa` under two rules of a byte `a` each, its byte at c corrected. Variable 1 at 0 is asked, which takes the first byte and reaches no other
+/// pair: what variable 2 holds is retained or blanked, and nothing else happens to it.
+fn two_rules(c: u32) -> Case {
+    let lines = [[2, 1, 46, 0, 0], [1, 2, 97, 0, 0], [2, 2, 97, 0, 0]];
+    Case {
         sheet: lines.map(questions::row).concat().into_bytes(),
-        entry: b"aaa".to_vec(),
-        variables: 1,
+        entry: b"aaaa".to_vec(),
+        variables: 2,
         c,
-    };
-    let asked = Pair {
-        variable: 1,
-        position: 0,
-    };
-    let mut table: Vec<u32> = table.into_iter().flat_map(|outcome| [outcome, 3]).collect();
-    case.correction(&mut Random(20), asked, &mut table)
+    }
 }
 
-/// Refusals 18 and 19 at their edges.
+/// The correction at c over a table that is blank but for the cell of variable 2 at a place: what that cell holds afterwards, or the number of a refusal.
+fn one_cell(c: u32, place: u32, cell: Cell) -> Result<Cell, u32> {
+    let (case, at) = (two_rules(c), 2 * (5 + place as usize));
+    let mut table = vec![0; 2 * case.cells()];
+    table[at..at + 2].copy_from_slice(&cell);
+    let said = case.correction(&mut Random(20), START, &mut table)?;
+    assert_eq!(said, [6, 0, 0, 1], "{cell:?} at {place}, {case}");
+    let after = [table[at], table[at + 1]];
+    let mut others = table;
+    others[at..at + 2].fill(0);
+    assert_eq!(others[..2], [6, 1]);
+    assert_eq!(others[2..], [0; 18], "{cell:?} at {place}, {case}");
+    Ok(after)
+}
+
+/// Every kind of outcome beside every kind of reach, at a place of four bytes that are corrected at c.
+fn every_kind(c: u32, place: u32) -> Vec<Cell> {
+    let below = place.saturating_sub(1);
+    let reaches = BTreeSet::from([0, below, place, c, c + 1, 4, 5, 6, u32::MAX]);
+    let outcomes = (0..=6 + 4).chain([1 << 31, u32::MAX]);
+    let beside = |outcome| reaches.iter().map(move |reach| [outcome, *reach]);
+    outcomes.flat_map(beside).collect()
+}
+
+/// They stay, are blanked or refused, for each reason at places up to c and above c. The outcome 0 has reach 0 in a kept table, and another reach beside
+/// it says nothing: above c it may stay or not.
+#[test]
+fn every_cell() {
+    let mut met = BTreeSet::new();
+    for (c, place) in (0..4).flat_map(|c| (0..=4).map(move |place| (c, place))) {
+        let correction = two_rules(c).by_document();
+        for cell in every_kind(c, place) {
+            let (fault, stays) = (correction.fault(place, cell), correction.stays(place, cell));
+            met.insert((fault, stays, c < place));
+            let said = one_cell(c, place, cell);
+            let shown = format!("{cell:?} at {place}, corrected at {c}");
+            match (fault, stays) {
+                (Some(_), _) => assert_eq!(said, Err(19), "{shown}"),
+                (None, false) => assert_eq!(said, Ok(BLANK), "{shown}"),
+                (None, true) if cell[0] == 0 => {
+                    assert_eq!(said.map(|[outcome, _]| outcome), Ok(0), "{shown}");
+                }
+                (None, true) => assert_eq!(said, Ok(cell), "{shown}"),
+            }
+        }
+    }
+    let reasons = [
+        None,
+        Some(Fault::Over),
+        Some(Fault::Left),
+        Some(Fault::Reach),
+    ];
+    let stays = reasons.map(|fault| [(fault, true, false), (fault, true, true)]);
+    let mut possible = BTreeSet::from_iter(stays.concat());
+    possible.insert((None, false, false));
+    assert_eq!(met, possible);
+}
+
+/// Refusals 18 and 19 at their edges, and what stays, by hand: n is 4.
 #[test]
 fn edges() {
-    let (fine, out) = (Ok([6, 0, 0, 1]), Err(19));
-    for (c, said) in [
-        (0, fine),
-        (2, fine),
-        (3, Err(18)),
-        (4, Err(18)),
-        (u32::MAX, Err(18)),
-    ] {
-        assert_eq!(four_cells([0; 4], c), said, "{c}");
+    for c in [0, 3, 4, 5, u32::MAX] {
+        let said = if c < 4 { Ok([1, 9]) } else { Err(18) };
+        assert_eq!(one_cell(c, 4, [1, 9]), said, "{c}");
     }
-    // At c a cell is blanked, whatever it holds; behind it 5 + n is the greatest number.
-    for (number, said) in [
-        (4, fine),
-        (5, out),
-        (6, out),
-        (7, fine),
-        (8, fine),
-        (9, out),
-        (u32::MAX, out),
+    // Behind the corrected byte 5 + n is the greatest outcome; a success may end at its place and not left of it, whatever its reach is beyond that;
+    // success and failure reach their place at least.
+    for (cell, stays) in [
+        ([9, 2], true),
+        ([10, 2], false),
+        ([u32::MAX, u32::MAX], false),
+        ([7, 2], true),
+        ([6, 2], false),
+        ([9, 1], false),
+        ([9, 0], false),
+        ([9, u32::MAX], true),
+        ([1, 2], true),
+        ([1, 1], false),
+        ([1, 0], false),
+        ([1, u32::MAX], true),
+        ([2, 0], true),
+        ([2, 9], true),
+        ([3, 9], true),
+        ([4, 9], true),
     ] {
-        assert_eq!(four_cells([number, number, 0, 0], 1), fine, "{number}");
-        assert_eq!(four_cells([0, 0, number, 0], 1), said, "{number}");
+        let said = if stays { Ok(cell) } else { Err(19) };
+        assert_eq!(one_cell(1, 2, cell), said, "{cell:?}");
     }
-    // 18 comes before 19; a success may end at its place, and not left of it.
-    assert_eq!(four_cells([9; 4], 3), Err(18));
-    assert_eq!(four_cells([0, 0, 0, 8], 1), fine);
-    assert_eq!(four_cells([0, 0, 0, 7], 1), out);
-    assert_eq!(four_cells([0, 0, 0, 7], 2), out);
+    // At the corrected byte success and failure stay that have no greater reach, and then come under 19 too; everything else is blanked, whatever it is.
+    for (cell, said) in [
+        ([9, 2], Ok([9, 2])),
+        ([9, 3], Ok(BLANK)),
+        ([10, 2], Err(19)),
+        ([10, 3], Ok(BLANK)),
+        ([u32::MAX, 2], Err(19)),
+        ([u32::MAX, 3], Ok(BLANK)),
+        ([7, 2], Ok([7, 2])),
+        ([6, 2], Err(19)),
+        ([6, 3], Ok(BLANK)),
+        ([1, 2], Ok([1, 2])),
+        ([1, 3], Ok(BLANK)),
+        ([1, 1], Err(19)),
+        ([1, 0], Err(19)),
+        ([9, 0], Err(19)),
+        ([9, u32::MAX], Ok(BLANK)),
+        ([2, 0], Ok(BLANK)),
+        ([3, 0], Ok(BLANK)),
+        ([4, 0], Ok(BLANK)),
+        ([2, 9], Ok(BLANK)),
+        ([0, 7], Ok(BLANK)),
+    ] {
+        assert_eq!(one_cell(2, 2, cell), said, "{cell:?}");
+    }
+    // 18 comes before 19.
+    assert_eq!(one_cell(4, 4, [10, 0]), Err(18));
+}
+
+/// A cell with the outcome 0 counts as blank, whatever its reach: its pair is decided anew, and counted.
+#[test]
+fn blank_but_for_its_reach() {
+    let case = Case {
+        sheet: marked_cases::I.as_bytes().to_vec(),
+        entry: b"ab".to_vec(),
+        variables: 3,
+        c: 0,
+    };
+    let mut table = vec![0; 18];
+    // 2 at 1, where the b is.
+    table[2 * (3 + 1) + 1] = 7;
+    let said = case.correction(&mut Random(25), START, &mut table);
+    assert_eq!(said, Ok([6, 0, 0, 5]));
+    let rows = [[6, 2, 6, 2, 0, 0], [6, 1, 1, 2, 0, 0], [0, 0, 6, 1, 0, 0]];
+    assert_eq!(table, rows.concat());
+}
+
+/// 10: the table has twice V times (n + 1) numbers and the work slice V times (n + 1); what stands behind them, be it half of a cell, is as it was.
+#[test]
+fn room() {
+    let mut random = Random(23);
+    let case = loops(b"xaa", 0);
+    let asked = Pair {
+        variable: 1,
+        position: 1,
+    };
+    let kept = case.question(&mut random, asked);
+    assert_eq!((case.cells(), kept.len()), (20, 43));
+    for table in [0, 1, 19, 20, 21, 38, 39, 40, 41, 42, 43] {
+        for work in [0, 19, 20, 21, 40] {
+            let mut table = kept[..table].to_vec();
+            let enough = 40 <= table.len() && 20 <= work;
+            let expected = if enough { Ok([2, 3, 2, 0]) } else { Err(10) };
+            let said = case.correction_over(&mut random, asked, &mut table, work);
+            assert_eq!(said, expected, "{} {work}", table.len());
+        }
+    }
+}
+
+/// Case a, each of its bytes corrected to what it is. Variables 1 to 5 reach 3, 1, 3, 2 and 3; at 0 the first two are decided anew, at 1 all that reach
+/// further but 5, which stands at 2, and at 2 all that reach 3.
+#[test]
+fn case_a() {
+    let mut random = Random(26);
+    for (c, newly) in [(0, 2), (1, 3), (2, 3)] {
+        let case = Case {
+            sheet: marked_cases::H.as_bytes().to_vec(),
+            entry: b"-6.".to_vec(),
+            variables: 6,
+            c,
+        };
+        let mut table = case.question(&mut random, START);
+        let before = table.clone();
+        let said = case.correction(&mut random, START, &mut table);
+        assert_eq!(said, Ok([8, 0, 0, newly]), "{c}");
+        assert_eq!(table, before, "{c}");
+    }
+}
+
+/// A line of a register on a society's sheet. Near the line's end a correction decides a few of the cells that the question decides, where by positions
+/// alone, as order 4 has it, it would decide nearly all of them.
+#[test]
+fn near_the_end() {
+    let line = society::one_line(0);
+    let (variables, n) = (line.variables(), line.entry.len());
+    let mut case = Case {
+        sheet: line.sheet,
+        entry: line.entry,
+        variables,
+        c: 0,
+    };
+    let (mut random, mut met) = (Random(27), Met::default());
+    let mut table = case.question(&mut random, START);
+    for (c, byte) in [(n - 1, b'!'), (n - 1, b'.'), (n - 2, b'x'), (n - 2, b's')] {
+        (case.c, case.entry[c]) = (c as u32, byte);
+        let newly = met.correction(&mut random, &case, START, &mut table);
+        let reached = case.answered(START).table;
+        let cells = case.by_document().cells(&reached);
+        let by_position = cells.filter(|(place, cell)| cell[0] != 0 && *place <= case.c);
+        let by_position = by_position.count() as u32;
+        assert!(
+            300 < by_position && 7 * newly < by_position,
+            "{newly} of {by_position}, {case}"
+        );
+    }
 }
 
 /// The question's refusals come first, in their order.
