@@ -91,8 +91,8 @@ uint32_t entryreader_write(
     uint32_t (*answer)[5]);
 
 /*
- * Checks a reading about a variable at a position. Returns 0, with the cell of the outcome that it claims (5 + q for success ending at q, 1 for failure)
- * and the end in its last line in the answer; or a refusal (1 to 6, 8, 9, 12 to 14).
+ * Checks a reading about a variable at a position. Returns 0, with the code of the outcome that it claims (5 + q for success ending at q, 1 for
+ * failure) and the end in its last line in the answer; or a refusal (1 to 6, 8, 9, 12 to 14).
  */
 uint32_t entryreader_check(
     const uint8_t *sheet, size_t sheet_length,

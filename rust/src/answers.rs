@@ -242,16 +242,16 @@ impl Answer {
         if code != 0 {
             return Err(Error::from_code(code));
         }
-        let [cell, variable, position, cells] = numbers;
+        let [outcome, variable, position, cells] = numbers;
         let named = Pair { variable, position };
-        Ok(match cell {
+        Ok(match outcome {
             0 => unreachable!("the cell of an answered question is not blank"),
             1 => Answer::Failure { cells },
             2 => Answer::Loop { named, cells },
             3 => Answer::Missing { named, cells },
             4 => Answer::End { named, cells },
             _ => Answer::Success {
-                end: cell - 5,
+                end: outcome - 5,
                 cells,
             },
         })
@@ -281,8 +281,8 @@ pub enum Claim {
 
 impl Claim {
     /// What the two numbers of a check say, or its refusal.
-    pub(crate) fn from_numbers(code: u32, [cell, end]: [u32; 2]) -> Result<Claim, Error> {
-        match (code, cell) {
+    pub(crate) fn from_numbers(code: u32, [outcome, end]: [u32; 2]) -> Result<Claim, Error> {
+        match (code, outcome) {
             (0, 1) => Ok(Claim::Failure),
             (0, _) => Ok(Claim::Success { end }),
             _ => Err(Error::from_code(code)),

@@ -211,8 +211,8 @@ pub fn write(
         out,
         &mut numbers,
     );
-    let [cell, named_variable, named_position, cells, lines] = numbers;
-    let answer = Answer::from_numbers(code, [cell, named_variable, named_position, cells])?;
+    let [outcome, named_variable, named_position, cells, lines] = numbers;
+    let answer = Answer::from_numbers(code, [outcome, named_variable, named_position, cells])?;
     Ok((answer, lines))
 }
 

@@ -323,7 +323,7 @@ impl Reader {
     }
 
     /// The table that the last answer left of the [`entry`](Reader::entry), as [`question`](lent::question) and [`correct`](lent::correct) say:
-    /// V times (n + 1) cells of two numbers, outcome then reach.
+    /// V times (n + 1) cells of two numbers, outcome then reach; blank before the first answer.
     ///
     /// ```
     /// let mut reader = entryreader::Reader::new(b"    1    1   46    0    0\n    1    2   46    0    0\n")?;

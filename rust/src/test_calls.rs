@@ -2,7 +2,7 @@
 //!
 //! Each call returns 0 with its numbers in `answer`, or 100 plus the number of a refusal, and then everything lent is as it was; [`sheet`] and
 //! [`judge`] store a refusal in `answer`.
-//! The code of an outcome is that of a cell: 1 for failure, 2 loop, 3 missing, 4 end, 5 + q for success ending at q.
+//! The code of an outcome is the one in its cell: 1 for failure, 2 loop, 3 missing, 4 end, 5 + q for success ending at q.
 //!
 //! ```
 //! use entryreader::{Pair, test_calls};
@@ -42,7 +42,7 @@ pub use crate::calls::sheet;
 /// ```
 pub use crate::calls::judge;
 
-/// The question, with the cell's code, the named variable, the named position and the count of decided cells:
+/// The question, with the outcome's code, the named variable, the named position and the count of decided cells:
 ///
 /// ```
 /// use entryreader::test_calls::question;

@@ -196,9 +196,9 @@ impl std::fmt::Display for Case {
     }
 }
 
-/// How often each was met. By codes, every success as 5: outcomes; and what a cell held whose pair is reached, where it was retained at a position above
-/// c, where it was retained for its reach, and where it was blanked. Loops that begin right of the corrected byte; corrections that decide fewer cells
-/// than are reached; corrections over the table of a correction.
+/// How often each was met. By codes, every success as 5: outcomes; and what a cell held whose pair is reached, where it was retained at a position
+/// above c, where it was retained for its reach, and where it was blanked. Loops that begin right of the corrected byte; corrections that decide fewer
+/// cells than are reached; corrections over the table of a correction.
 #[derive(Debug, Default)]
 struct Met {
     outcomes: [u64; 6],
@@ -476,8 +476,8 @@ fn any_cells(random: &mut Random, cells: usize, n: usize) -> Vec<u32> {
     places.flat_map(cell).collect()
 }
 
-/// The entry `aaaa` under two rules of a byte `a` each, its byte at c corrected. Variable 1 at 0 is asked, which takes the first byte and reaches no other
-/// pair: what variable 2 holds is retained or blanked, and nothing else happens to it.
+/// The entry `aaaa` under two rules of a byte `a` each, its byte at c corrected. Variable 1 at 0 is asked, which takes the first byte and reaches no
+/// other pair: what variable 2 holds is retained or blanked, and nothing else happens to it.
 fn two_rules(c: u32) -> Case {
     let lines = [[2, 1, 46, 0, 0], [1, 2, 97, 0, 0], [2, 2, 97, 0, 0]];
     Case {
@@ -488,7 +488,7 @@ fn two_rules(c: u32) -> Case {
     }
 }
 
-/// The correction at c over a table that is blank but for the cell of variable 2 at a place: what that cell holds afterwards, or the number of a refusal.
+/// The correction at c over a table that is blank but for the cell of variable 2 at a place: what that cell holds afterwards, or the refusal's number.
 fn one_cell(c: u32, place: u32, cell: Cell) -> Result<Cell, u32> {
     let (case, at) = (two_rules(c), 2 * (5 + place as usize));
     let mut table = vec![0; 2 * case.cells()];
@@ -512,8 +512,8 @@ fn every_kind(c: u32, place: u32) -> Vec<Cell> {
     outcomes.flat_map(beside).collect()
 }
 
-/// They stay, are blanked or refused, for each reason at places up to c and above c. The outcome 0 has reach 0 in a kept table, and another reach beside
-/// it says nothing: above c it may stay or not.
+/// They stay, are blanked or refused, for each reason at places up to c and above c. The outcome 0 has reach 0 in a kept table, and another reach
+/// beside it says nothing: above c it may stay or not.
 #[test]
 fn every_cell() {
     let mut met = BTreeSet::new();
@@ -576,7 +576,7 @@ fn edges() {
         let said = if stays { Ok(cell) } else { Err(19) };
         assert_eq!(one_cell(1, 2, cell), said, "{cell:?}");
     }
-    // At the corrected byte success and failure stay that have no greater reach, and then come under 19 too; everything else is blanked, whatever it is.
+    // At the corrected byte success and failure stay whose reach is no greater, and come under 19 too; everything else is blanked, whatever it is.
     for (cell, said) in [
         ([9, 2], Ok([9, 2])),
         ([9, 3], Ok(BLANK)),

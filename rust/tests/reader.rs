@@ -290,8 +290,8 @@ fn letters() -> Reader {
     reader(&(sheet + &row([64, 3, 3, 0, 0]) + &row([65, 1, 0, 0, 0])))
 }
 
-/// The question decides 63 cells at position 0, of which that of variable v reaches 65 - v, and a letter at each position. A correction at c decides the
-/// letter there and, of the others, those that reach past c: few near the end.
+/// The question decides 63 cells at position 0, of which that of variable v reaches 65 - v, and a letter at each position. A correction at c decides
+/// the letter there and, of the others, those that reach past c: few near the end.
 #[test]
 fn near_the_end() {
     let entry = [b'a'; 64];
@@ -307,6 +307,26 @@ fn near_the_end() {
         let answer = reader.correct(c, b'B', 1, 0);
         assert_eq!(answer, Ok(Answer::Failure { cells }), "{c}");
     }
+}
+
+/// The last byte of the longest entry: all letters before it stay, and of each position the run from there on is decided anew.
+#[test]
+fn longest_corrected() {
+    let mut reader = reader(I);
+    let entry = [&[b'a'; 4_095][..], b"."].concat();
+    let (end, cells) = (4_095, 2 * 4_096 + 1);
+    assert_eq!(reader.verdict(&entry), Ok(Verdict::Partial { end, cells }));
+    // The run from 0 to 4,095, and at 4,096 too; the byte at 4,095, and the one behind it that is not there.
+    let (variable, position, cells) = (2, 4_096, 4_096 + 1 + 2);
+    let named = Pair { variable, position };
+    let answer = reader.correct(4_095, b'a', 1, 0);
+    assert_eq!(answer, Ok(Answer::End { named, cells }));
+    // The run from 0 to 4,095, and the byte there; that nothing follows the run at 4,095 is still known.
+    let cells = 4_096 + 1;
+    let answer = reader.correct(4_095, b'.', 1, 0);
+    assert_eq!(answer, Ok(Answer::Success { end, cells }));
+    let refused = reader.correct(4_096, b'.', 1, 0);
+    assert_eq!(refused.map_err(|error| error.number()), Err(18));
 }
 
 /// A correction may follow any answer: entry and table are those of the last one.
@@ -332,7 +352,7 @@ fn corrected_after_each_call() {
     assert_eq!((reader.entry(), reader.table().len()), (&b""[..], 2 * 6));
 }
 
-/// Number of a refused correction.
+/// The number that a correction is refused with.
 fn refused_correction(reader: &mut Reader, c: u32, Pair { variable, position }: Pair) -> u32 {
     let refused = reader.correct(c, b'x', variable, position);
     let error = refused.expect_err("it is refused");
@@ -738,8 +758,8 @@ fn refused_by_document(variables: u32, n: u32, c: u32, asked: Pair) -> Option<u3
     first.map(|(number, _)| number)
 }
 
-/// One correction: answer, count and cells are what document 02 and the recognizer say, and a fresh reader answers the same; or it is refused, and entry
-/// and table stay.
+/// One correction: answer, count and cells are what document 02 and the recognizer say, and a fresh reader answers the same; or it is refused, and
+/// entry and table stay.
 fn correct(reader: &mut Reader, (c, byte): (u32, u8), asked: Pair, met: &mut Met) {
     let (mut entry, table) = (reader.entry().to_vec(), reader.table().to_vec());
     let correction = Correction {

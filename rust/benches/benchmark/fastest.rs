@@ -142,7 +142,8 @@ unsafe fn leaf(word: u32, entry: &[u8], position: u32) -> Cell {
     }
 }
 
-/// Looks a called pair up: its outcome, and the number of its cell. If it is to be opened it becomes the latest open pair, and the walk goes on with it.
+/// Looks a called pair up: its outcome, and the number of its cell. If it is to be opened it becomes the latest open pair, and the walk goes on with
+/// it.
 macro_rules! look_up {
     ($walk:lifetime, $state:expr, $called:expr) => {{
         let (words, entry, table, work, width, top, depth, count) = $state;
