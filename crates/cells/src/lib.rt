@@ -78,12 +78,12 @@ impl Cell {
     }
 }
 
-// The number of a pair's cell, on n bytes.
+// The number of a pair's cell, on n bytes. It is found in 32 bits: of 64 the compiler makes a longer walk.
 pub fn cell_number(n: usize, variable: u32, position: u32) -> usize
     requires { ⌜ (1 ≤ variable) × (variable ≤ 256) × (n ≤ 4096) × (position ≤ n) ⌝ }
     ensures { λ r. ⌜ r ≡ cell n (variable at position) ⌝ }
 {
-    (variable as usize - 1) * (n + 1) + position as usize
+    ((variable - 1) * (n as u32 + 1) + position) as usize
 }
 
 // A caller: a pair, and whether what it called is its second call.

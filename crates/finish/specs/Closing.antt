@@ -15,7 +15,7 @@ use Rattle.step.specs.declared.Walk.the-variants as walk
 
 -- What each case of the walk's answer says: the outcome.
 abbrev pub outcomeOf : Walk → Outcome
-outcomeOf (walk.Settled c) = result (resultOf (c .0))
+outcomeOf (walk.Settled c) = result (resultOf c)
 outcomeOf (walk.Loop A p B q d) = loop
 outcomeOf (walk.Missing A p d) = stopped missing
 outcomeOf (walk.End A p d) = stopped end

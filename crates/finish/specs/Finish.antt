@@ -24,7 +24,7 @@ pub record NothingOpen (n v c : ℕ) (T : List ℕ) : Type 0 where
 
 -- What the last step asks, by how the walk ended: an open cell is closed with the outcome's code.
 abbrev pub FinishReady : ℕ → ℕ → List ℕ → List ℕ → Walk → Type 0
-FinishReady n v T W (walk.Settled c) = NothingOpen n v (c .0) T
+FinishReady n v T W (walk.Settled c) = NothingOpen n v c T
 FinishReady n v T W (walk.Loop a e B q d) = CloseReady n v B q d (code (outcomeOf (walk.Loop a e B q d))) 0 T W
 FinishReady n v T W (walk.Missing B q d) = CloseReady n v B q d (code (outcomeOf (walk.Missing B q d))) 0 T W
 FinishReady n v T W (walk.End B q d) = CloseReady n v B q d (code (outcomeOf (walk.End B q d))) 0 T W

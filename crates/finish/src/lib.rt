@@ -52,15 +52,15 @@ fn close(
     }
 }
 
-// The answer of a cell that holds a result.
-fn settled(cell: Cell, count: u32) -> Answer
-    requires { ⌜ Code (cell .0) ⌝ }
-    ensures { λ r. ⌜ told r ≡ accepted (reply (result (resultOf (cell .0))) (0 at 0) count) ⌝ }
+// The answer of the number of a result.
+fn settled(code: u32, count: u32) -> Answer
+    requires { ⌜ Code code ⌝ }
+    ensures { λ r. ⌜ told r ≡ accepted (reply (result (resultOf code)) (0 at 0) count) ⌝ }
 {
-    if cell.0 == Cell::FAILURE.0 {
+    if code == Cell::FAILURE.0 {
         return Answer::Failure(count);
     }
-    Answer::Success(cell.0 - Cell::SUCCESS.0, count)
+    Answer::Success(code - Cell::SUCCESS.0, count)
 }
 
 // Closes what the walk left open, and answers with the count.
@@ -76,7 +76,7 @@ pub fn finish(
     ensures { λ r. ⌜ Finishes n variables end count (now (table .entry)) (now (table .exit)) r ⌝ }
 {
     match end {
-        Walk::Settled(cell) => settled(cell, count),
+        Walk::Settled(code) => settled(code, count),
         Walk::Loop(b, q, a, p, depth) => {
             close(n, variables, a, p, depth, Cell::LOOP, table, work);
             Answer::Loop(b, q, count)

@@ -81,7 +81,7 @@ pub record Returns (W : List ℕ) (x y : State) : Type 0 where
 -- Back to the caller, or the end where there is none.
 abbrev pub GoesBack : List ℕ → State → Cell → Step → Type 0
 GoesBack W x c (step.On y) = Returns W x y
-GoesBack W x c (step.Ended (walk.Settled d)) = (d .0 ≡ c .0) × (x .depth ≡ 0)
+GoesBack W x c (step.Ended (walk.Settled d)) = (d ≡ c .0) × (x .depth ≡ 0)
 GoesBack W x c (step.Ended (walk.Loop A p B q d)) = ⊥
 GoesBack W x c (step.Ended (walk.Missing A p d)) = ⊥
 GoesBack W x c (step.Ended (walk.End A p d)) = ⊥
@@ -160,7 +160,7 @@ pub record Repeats (s T W T′ W′ : List ℕ) (x : State) (y z : Pair) (d : �
 
 -- A step that ends the walk.
 abbrev pub StepEnds : (ℕ → Rule) → List ℕ → List ℕ → List ℕ → List ℕ → List ℕ → State → Walk → Type 0
-StepEnds rule s T W T′ W′ x (walk.Settled c) = Settles rule s T W T′ W′ x (c .0) × (x .depth ≡ 0)
+StepEnds rule s T W T′ W′ x (walk.Settled c) = Settles rule s T W T′ W′ x c × (x .depth ≡ 0)
 StepEnds rule s T W T′ W′ x (walk.Loop A p B q d) = Repeats s T W T′ W′ x (A at p) (B at q) d
 StepEnds rule s T W T′ W′ x (walk.Missing A p d) = Opens s T W T′ W′ x × Stuck rule s x missing (A at p) d
 StepEnds rule s T W T′ W′ x (walk.End A p d) = Opens s T W T′ W′ x × Stuck rule s x end (A at p) d

@@ -31,10 +31,10 @@ pub struct State {
     pub depth: usize,
 }
 
-// What a walk ends with: the cell of a result; a pair met a second time, and the one that called it; or the pair that has no rule or no byte;
+// What a walk ends with: the number of a result; a pair met a second time, and the one that called it; or the pair that has no rule or no byte;
 // but for a result with the number of callers in the work slice.
 pub enum Walk {
-    Settled(Cell),
+    Settled(u32),
     Loop(u32, u32, u32, u32, usize),
     Missing(u32, u32, usize),
     End(u32, u32, usize),
@@ -124,7 +124,7 @@ fn settle_top(
     let cell = second.reaching(first.1);
     cell.store(table, cell_number(n, x.variable, x.position));
     if x.depth == 0 {
-        return Step::Ended(Walk::Settled(cell));
+        return Step::Ended(Walk::Settled(cell.0));
     }
     let depth = x.depth - 1;
     Step::On(caller_of(x, work[depth], depth))

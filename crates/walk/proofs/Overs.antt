@@ -40,7 +40,7 @@ result-small n (success q) e = omega arith
 result-small n failure e = omega arith
 
 ended-small : (n : ℕ) (end : Walk) → SettledCode n end → code (outcomeOf end) ≤ 5 + n
-ended-small n (walk.Settled c) s = rw (result-is n (c .0) (s .0) (s .1)) (result-small n (s .0) (s .1 .ends))
+ended-small n (walk.Settled c) s = rw (result-is n c (s .0) (s .1)) (result-small n (s .0) (s .1 .ends))
 ended-small n (walk.Loop A p B q d) s = omega arith
 ended-small n (walk.Missing A p d) s = omega arith
 ended-small n (walk.End A p d) s = omega arith
@@ -155,7 +155,7 @@ module _ {rule : ℕ → Rule} {s : List ℕ} {v A p : ℕ} {T W : List ℕ} (r 
         let m = start-room in
         let z = h .table .size in
         let k = h .settled-code in
-        record { few = r .few; short = r .short; room = omega arith; code-is = code-of (length s) (c .0) (k .0) (k .1); no-open = no-open (h .table) (h .stops-at) }
+        record { few = r .few; short = r .short; room = omega arith; code-is = code-of (length s) c (k .0) (k .1); no-open = no-open (h .table) (h .stops-at) }
     over-finish (walk.Loop a e B q d) h = close-ready h B q 2 (r .few) (r .short) (λ z. omega arith) start-room (r .work-room) (h .stops-at)
     over-finish (walk.Missing B q d) h = close-ready h B q 3 (r .few) (r .short) (λ z. omega arith) start-room (r .work-room) (h .stops-at)
     over-finish (walk.End B q d) h = close-ready h B q 4 (r .few) (r .short) (λ z. omega arith) start-room (r .work-room) (h .stops-at)

@@ -377,7 +377,7 @@ module _ {rule : ℕ → Rule} {s : List ℕ} {v A p : ℕ} {T₀ W₀ : List �
 
   -- The asked pair is a leaf,
   pub leaf-ends : (c : Cell) (t : Result) → Settled (length s) (c .0) t → act rule s (A at p) ≡ gives t → c .1 ≡ leafReachOf rule (A at p)
-      → WalkEnds rule s v (A at p) O (stored T₀ (cell (length s) (A at p)) (c .0) (c .1)) W₀ W₀ (walk.Settled c)
+      → WalkEnds rule s v (A at p) O (stored T₀ (cell (length s) (A at p)) (c .0) (c .1)) W₀ W₀ (walk.Settled (c .0))
   leaf-ends c t m e f = record {
     opens = [];
     table =

@@ -59,9 +59,9 @@ StopsAt (walk.Loop A p B q d) opens = (ps : List Pair) × (opens ≡ (B at q) �
 StopsAt (walk.Missing A p d) opens = (ps : List Pair) × (opens ≡ (A at p) ∷ ps)
 StopsAt (walk.End A p d) opens = (ps : List Pair) × (opens ≡ (A at p) ∷ ps)
 
--- The cell of a result holds a code.
+-- The number of a result is a code.
 abbrev pub SettledCode : ℕ → Walk → Type 0
-SettledCode n (walk.Settled c) = (r : Result) × Settled n (c .0) r
+SettledCode n (walk.Settled c) = (r : Result) × Settled n c r
 SettledCode n (walk.Loop A p B q d) = Unit {0}
 SettledCode n (walk.Missing A p d) = Unit {0}
 SettledCode n (walk.End A p d) = Unit {0}

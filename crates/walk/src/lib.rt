@@ -72,10 +72,10 @@ fn walk_on(
 fn settle_asked(n: usize, variable: u32, position: u32, leaf: Cell, table: &mut [u32]) -> Walk
     requires { ⌜ (1 ≤ variable) × (variable ≤ 256) × (n ≤ 4096) × (position ≤ n) × HasCell (now table) (cell n (variable at position)) ⌝ }
     ensures stores { λ _. ⌜ now (table .exit) ≡ stored (now (table .entry)) (cell n (variable at position)) (leaf .0) (leaf .1) ⌝ }
-    ensures ends { λ r. ⌜ r ≡ Settled leaf ⌝ }
+    ensures ends { λ r. ⌜ r ≡ Settled (leaf .0) ⌝ }
 {
     leaf.store(table, cell_number(n, variable, position));
-    Walk::Settled(leaf)
+    Walk::Settled(leaf.0)
 }
 
 // Walks from an open pair, the only one, until it is settled, or a pair is met a second time, or one has no rule or no byte.
