@@ -1,14 +1,21 @@
 """The corrections. A chain is a question whose entry and table are kept, and corrections of a byte, one after the other; after each a
-question is asked over the table that the one before left. Questions are taken from the list, of each kind with each outcome."""
+question is asked over the table that the one before left. Questions are taken from the list, of each kind with each outcome. A cell of a
+table is two numbers, outcome and reach."""
 from making import stop
-from questions import generator, variables_of
+from questions import cells_due, generator, variables_of
 
 CHAINS = 3              # at most so many of a kind with an outcome
 MOST = 5                # corrections of a chain
 LEFT = {"loop": 14, "missing": 12, "end": 6}    # chains with all corrections left of the named pair
+NEAR = 2                # at most so many of a kind with an outcome, with all corrections near the end
+MANY = 1000             # where only the cells above c stay, these decide so many cells
+FEWER = 10              # and with a reach, so many times fewer
+PUTS = 2                # chains with numbers put into the table
 FAR = 99999999          # the largest number of a field
 
 OUTCOMES = ("success", "failure", "loop", "missing", "end")
+FAULTS = ("ends one right of n", "ends right of n", "ends one left of its place", "ends left of its place", "reaches one less than its place",
+          "reaches less than its place")
 CELLS = {1: "failure", 2: "loop", 3: "missing", 4: "end"}
 
 
@@ -18,18 +25,37 @@ def kind_of(q): return q.group.split(":")[0]
 def with_entry(q, entry):
     """The same question about another entry at place 0, with as many numbers lent as it needs."""
     cells = variables_of(q.sheet) * (len(entry) + 1)
-    return q._replace(entry=entry, place=0, x=cells, y=cells)
+    return q._replace(entry=entry, place=0, x=2 * cells, y=cells)
+
+
+def with_byte(q, c, byte):
+    """The same question about the entry with another byte at c."""
+    return q._replace(entry=q.entry[:c] + bytes([byte]) + q.entry[c + 1:])
+
+
+def cells(table, count, width):
+    """Place, outcome and reach of the first cells of a table."""
+    return [(i % width, *table[2 * i:2 * i + 2]) for i in range(count)]
+
+
+def is_result(outcome): return outcome == 1 or outcome >= 5
+
+
+def stays(place, outcome, reach, c): return place > c or (is_result(outcome) and reach <= c)
+
+
+def faults_of(place, outcome, reach, size):
+    """What is wrong with a retained cell."""
+    end = outcome - 5
+    if end > size: yield "ends one right of n" if end == size + 1 else "ends right of n"
+    if 0 <= end < place: yield "ends one left of its place" if end == place - 1 else "ends left of its place"
+    if is_result(outcome) and reach < place: yield "reaches one less than its place" if reach == place - 1 else "reaches less than its place"
 
 
 def faults(table, variables, size, c):
-    """What is wrong with the retained cells."""
-    found = set()
-    for i in range(variables * (size + 1)):
-        place, end = i % (size + 1), table[i] - 5
-        if place <= c or end < 0: continue
-        if end > size: found.add("ends one right of n" if end == size + 1 else "ends right of n")
-        if end < place: found.add("ends one left of its place" if end == place - 1 else "ends left of its place")
-    return found
+    """What is wrong with the retained cells, and whether their places are above c."""
+    retained = [cell for cell in cells(table, variables * (size + 1), size + 1) if stays(*cell, c)]
+    return {(what, cell[0] > c) for cell in retained for what in faults_of(*cell, size)}
 
 
 class Chain:
@@ -42,23 +68,25 @@ class Chain:
 
     def correct(self, c, byte, variable, place):
         """Makes the byte at c another, and asks about a pair."""
-        entry, before = bytearray(self.q.entry), self.table[:]
-        again = entry[c] == byte
-        entry[c] = byte
-        self.q, self.c = self.q._replace(entry=bytes(entry), variable=variable, place=place), c
+        again, before = self.q.entry[c] == byte, self.table[:]
+        self.q, self.c = with_byte(self.q, c, byte)._replace(variable=variable, place=place), c
         self.found = self.maker.correction(self.first.entry, self.q, c, byte, self.table)
-        for outcome in self.retained(before): self.maker.tally[("retained, reached", outcome)] += 1
+        for met in self.retained(before): self.maker.tally[met] += 1
         self.note(again)
 
     def retained(self, before):
-        """The outcomes of the retained cells whose pairs the question reaches."""
-        e, width = self.maker.reference.eval(self.q), len(self.q.entry) + 1
+        """What is met among the cells whose pairs the question reaches: the outcomes of the retained ones, of those that only their reach
+        retains, and a reach of c or c + 1 at a place up to c."""
+        e, width, c = self.maker.reference.eval(self.q), len(self.q.entry) + 1, self.c
         met = set()
         for variable, place in e.reached(self.q.variable, self.q.place):
-            cell = before[(variable - 1) * width + place]
-            if place <= self.c or cell == 0: continue
-            if cell != e.cell(variable, place): stop(f"a retained cell is not its pair's outcome: {self.q}")
-            met.add(CELLS.get(cell, "success"))
+            i = (variable - 1) * width + place
+            outcome, reach = before[2 * i:2 * i + 2]
+            if place <= c and is_result(outcome) and reach in (c, c + 1): met.add(("reach", "c, retained" if reach == c else "c + 1, blanked"))
+            if outcome == 0 or not stays(place, outcome, reach, c): continue
+            if (outcome, reach) != (e.cell(variable, place), e.reach(variable, place)): stop(f"a retained cell is not its pair's: {self.q}")
+            met.add(("retained, reached", CELLS.get(outcome, "success")))
+            if place <= c: met.add(("by reach, reached", CELLS.get(outcome, "success")))
         return met
 
     def note(self, again):
@@ -75,7 +103,13 @@ class Chain:
         if not self.maker.reference.refused(found) or found.number != number: stop(f"not refused with {number}: {q}")
         if table != self.table[:lent]: stop(f"a refusal changes the table: {q}")
         if number == 19:
-            for fault in faults(self.table, variables_of(q.sheet), len(q.entry), c): self.maker.tally[("refused with 19", fault)] += 1
+            for what, above in faults(self.table, variables_of(q.sheet), len(q.entry), c):
+                self.maker.tally[("refused with 19", what + (", above c" if above else ", up to c"))] += 1
+
+    def put(self, at, x):
+        """Makes a number of the table another."""
+        self.maker.put(self.first, at, x, self.table)
+        self.maker.tally[("puts", "numbers put into a table")] += 1
 
 
 # ---------------------------------------------------------------- one correction
@@ -126,13 +160,14 @@ def one_fault(chain, which):
     elif which == 1: chain.refused(18, FAR)
     elif which == 2: chain.refused(8, 0, variable=variables + 1)
     elif which == 3: chain.refused(9, size // 2, place=size + 1)
-    else: chain.refused(10, 0, lent=variables * (size + 1) - 1)
+    elif which == 4: chain.refused(10, 0, lent=2 * variables * (size + 1) - 1)
+    else: chain.refused(10, 0, lent=variables * (size + 1))
 
 
 def many_faults(maker, q):
     """Over a table that no question left: each number comes before those that would follow."""
     chain = Chain(maker, q._replace(variable=0))
-    size, short = len(q.entry), variables_of(q.sheet) * (len(q.entry) + 1) - 1
+    size, short = len(q.entry), 2 * cells_due(q) - 1
     chain.refused(1, size, lent=short, sheet=b"", variable=0, place=size + 1)
     chain.refused(8, size, lent=short, variable=0, place=size + 1)
     chain.refused(9, size, lent=short, variable=q.variable, place=size + 1)
@@ -144,24 +179,64 @@ def many_faults(maker, q):
 def refused_questions(maker, asked):
     """A correction is refused as the question is, where the fault lies in the sheet or in the entry's length."""
     for q, outcome in asked:
-        number = maker.reference.question(q)[0].number if outcome == "refused" else 0
+        number = maker.found[q].number if outcome == "refused" else 0
         if 0 < number <= 6: Chain(maker, q).refused(number, 0)
 
 
-def other_width(maker, asked, fault):
+def other_width(maker, asked, what):
     """Corrections over tables of entries that have one byte more, whose retained cells have this fault alone."""
     count = 0
     for q, outcome in asked:
         if outcome == "refused" or len(q.entry) > 700: continue
         entry, table = q.entry[:-1], maker.reference.question(q)[1]
         size = len(entry)
-        places = [c for c in (0, size // 2, size - 2, size - 1) if faults(table, variables_of(q.sheet), size, c) == {fault}]
+        places = [c for c in (0, size // 2, size - 2, size - 1) if {x[0] for x in faults(table, variables_of(q.sheet), size, c)} == {what}]
         if places:
             chain = Chain(maker, q)
             for c in places: chain.refused(19, c, entry=entry, place=0)
             count += len(places)
         if count >= 3: return
-    stop(f"too few tables with a cell that {fault}")
+    stop(f"too few tables with a cell that {what}")
+
+
+def results(q, c, table, above, successes):
+    """The retained successes or failures of a question at places above c, or up to c: where each stands in the table, and its place."""
+    found = enumerate(cells(table, cells_due(q), len(q.entry) + 1))
+    return [(2 * i, place) for i, (place, outcome, reach) in found
+            if place > 1 and (outcome >= 5 if successes else outcome == 1) and stays(place, outcome, reach, c) and (place > c) == above]
+
+
+def one_number(rng, chain, c, above):
+    """Numbers that make one retained cell wrong: the fault, where the number stands, and the number."""
+    (good, good_place), (bad, bad_place) = [rng.choice(results(chain.q, c, chain.table, above, successes)) for successes in (True, False)]
+    yield "ends one right of n", good, 5 + len(chain.q.entry) + 1
+    yield "ends right of n", bad, FAR
+    yield "ends one left of its place", bad, 5 + bad_place - 1
+    yield "ends left of its place", good, 5
+    yield "reaches one less than its place", good + 1, good_place - 1
+    yield "reaches one less than its place", bad + 1, bad_place - 1
+    yield "reaches less than its place", good + 1, 0
+
+
+def wrong_and_right(chain, c, above, what, at, x):
+    """One number of the kept table is wrong, and then right again."""
+    before = chain.table[at]
+    chain.put(at, x)
+    if faults(chain.table, variables_of(chain.q.sheet), len(chain.q.entry), c) != {(what, above)}: stop(f"not this alone, {what}: {chain.q}")
+    chain.refused(19, c)
+    chain.put(at, before)
+
+
+def run_puts(maker, rng, kept):
+    """Each fault alone, in a success and in a failure, right of the byte and left of it; then a correction."""
+    def has_all(q):
+        table, c = maker.reference.question(q)[1], len(q.entry) // 2
+        return all(results(q, c, table, above, successes) for above in (True, False) for successes in (True, False))
+    for q in rng.sample([q for q in kept if maker.found[q].count >= MANY and has_all(q)], PUTS):
+        chain, c = Chain(maker, q), len(q.entry) // 2
+        for above in (True, False):
+            for one in one_number(rng, chain, c, above): wrong_and_right(chain, c, above, *one)
+        correct_once(rng, chain, len(q.entry))
 
 
 # ---------------------------------------------------------------- chains
@@ -177,17 +252,52 @@ def chosen(rng, asked):
 def run_chosen(maker, rng, kept):
     for i, q in enumerate(kept):
         chain = Chain(maker, q)
-        if i % 6 == 5: one_fault(chain, i // 6 % 5)
+        if i % 6 == 5: one_fault(chain, i // 6 % 6)
         for _ in range(1 + i % MOST): correct_once(rng, chain, len(q.entry))
 
 
 def run_left(maker, rng, asked):
     """Corrections left of a named pair, whose cell is retained."""
     for outcome, count in LEFT.items():
-        named = [(q, maker.reference.question(q)[0].named[1]) for q, o in asked if o == outcome]
+        named = [(q, maker.found[q].named[1]) for q, o in asked if o == outcome]
         for q, place in rng.sample([x for x in named if x[1] > 0], count):
             chain = Chain(maker, q)
             for _ in range(3): correct_once(rng, chain, place)
+
+
+def far_fewer(count, without): return without >= MANY and FEWER * count <= without
+
+
+def saves(maker, q):
+    """Does a correction of the last byte decide far fewer cells by the reach?"""
+    last, table = len(q.entry) - 1, maker.reference.question(q)[1]
+    q = with_byte(q, last, q.entry[last] ^ 1)
+    without = maker.reference.decided_without_reach(q, last, table)
+    return far_fewer(maker.reference.correct(q, last, table).count, without)
+
+
+def near_end(chain, c, byte):
+    """A correction near the end, with the first question."""
+    without = chain.maker.reference.decided_without_reach(with_byte(chain.q, c, byte), c, chain.table)
+    chain.correct(c, byte, chain.first.variable, chain.first.place)
+    count = chain.found.count
+    for name, more in ((f"c = n - {len(chain.q.entry) - c}", 1), ("far fewer cells by the reach", far_fewer(count, without)),
+                       ("no cell", count == 0), ("cells newly decided", count), ("cells without the reach", without)):
+        chain.maker.tally[("near the end", name)] += more
+
+
+def run_near_end(maker, rng, asked):
+    """Corrections of the last byte, of the last but one, and of the last again, which is as it was first."""
+    groups = {}
+    for q, outcome in asked:
+        if outcome != "refused" and maker.found[q].count >= MANY:
+            groups.setdefault((kind_of(q), outcome, q.x > 2 * cells_due(q)), []).append(q)
+    for group in groups.values():
+        for q in [q for q in rng.sample(group, min(4 * NEAR, len(group))) if saves(maker, q)][:NEAR]:
+            chain, last = Chain(maker, q), len(q.entry) - 1
+            near_end(chain, last, byte_for(rng, chain, last))
+            near_end(chain, last - 1, byte_for(rng, chain, last - 1))
+            near_end(chain, last, q.entry[last])
 
 
 def run_short(maker, rng, kept):
@@ -203,21 +313,27 @@ def run(maker, asked):
     kept = list(chosen(rng, asked))
     run_chosen(maker, rng, kept)
     run_left(maker, rng, asked)
+    run_near_end(maker, rng, asked)
     run_short(maker, rng, kept)
     many_faults(maker, rng.choice(kept))
     refused_questions(maker, asked)
-    for fault in ("ends one right of n", "ends left of its place", "ends one left of its place"): other_width(maker, asked, fault)
+    for what in ("ends one right of n", "reaches less than its place"): other_width(maker, asked, what)
+    run_puts(maker, rng, kept)
 
 
 def check_numbers(tally):
     """What the corrections have to have at least."""
     count = sum(x for (kind, _), x in tally.items() if kind == "corrections")
-    if not 250 <= count <= 350: stop(f"{count} corrections")
+    if not 300 <= count <= 600: stop(f"{count} corrections")
     for outcome in OUTCOMES:
         if tally[("corrections", outcome)] < 20: stop(f"too few corrections with outcome {outcome}")
         if tally[("retained, reached", outcome)] < 10: stop(f"too few corrections that reach a retained {outcome}")
     for kind, names in (("corrected byte", ("first", "last", "between", "the same again")),
                         ("asked place", ("left of the byte", "at the byte", "right of the byte")),
-                        ("corrections", [f"refused with {x}" for x in (1, 2, 3, 4, 5, 6, 8, 9, 10, 18, 19)])):
+                        ("corrections", [f"refused with {x}" for x in (1, 2, 3, 4, 5, 6, 8, 9, 10, 18, 19)]),
+                        ("refused with 19", [f"{what}, {where}" for what in FAULTS for where in ("above c", "up to c")]),
+                        ("by reach, reached", ("success", "failure")), ("reach", ("c, retained", "c + 1, blanked")),
+                        ("near the end", ("c = n - 1", "c = n - 2", "no cell"))):
         for name in names:
             if tally[(kind, name)] == 0: stop(f"no {kind}: {name}")
+    if tally[("near the end", "far fewer cells by the reach")] < 40: stop("too few corrections near the end that decide far fewer cells")

@@ -5,8 +5,8 @@
 
 READER is an implementation of documents 01 and 02 in Python, reader.py, made apart from this repository. RANGES are the classes of the
 bytes, or a file with them, as 48-57:1,9:4 and so on; a byte in none has class 0. The default is document 01's with document 02's order 5, and
-reader.py's own classes must agree with it. lua5.4 and lua-lpeg are installed from Debian where they are absent. It is run by hand; a second
-run writes the same bytes.
+reader.py's own classes must agree with it; all else is as of order 6. lua5.4 and lua-lpeg are installed from Debian where they are absent. It
+is run by hand; a second run writes the same bytes.
 
 What comes from where:
   LPeg (judge.lua)  outcome and end of each question whose rules LPeg takes, and the named pair of missing and end. It refuses rules
@@ -31,21 +31,23 @@ sys.path.append(os.path.join(HERE, ".."))
 import corrections
 import questions
 from making import Store, install, line, load_reference, stop
+from questions import cells_due
 
 CRATE = os.path.join(HERE, "..", "..", "crates", "test_questions")
 
 CLASSES = ("48-57:1,65-90:2,97-122:3,9:4,32:4,33-47:5,58-64:5,91-96:5,123-126:5,"
            "192-214:2,216-222:2,223-246:3,248-255:3,160:4,161-191:5,215:5,247:5,128-159:6")
-ORDER = 5               # reader.py's number of these classes
+ORDER = 6               # reader.py answers as of this order of document 02
+NO_REACH = 4            # as of this one only cells above the corrected byte stay
 
 FILE_BYTES = 262144     # the program's buffers
 OUTPUT_BYTES = 262144
-NUMBERS = questions.CELLS
+NUMBERS = questions.NUMBERS     # of the program's table, and of its work slice, where the machine's frames are
 UNTOUCHED_NUMBER, UNTOUCHED_BYTE = 77777, 42
 MODULUS = 9999991
 
-QUESTION, MACHINE, READING, DAMAGE, KEPT, CORRECTION = 0, 1, 2, 3, 4, 5   # tasks of a request
-WRITER, CHECKER, END, CORRECTED = 2, 3, 5, 6                              # kinds of answers beside the tasks
+QUESTION, MACHINE, READING, DAMAGE, KEPT, CORRECTION, PUT = 0, 1, 2, 3, 4, 5, 6     # tasks of a request
+WRITER, CHECKER, END, CORRECTED, BEFORE = 2, 3, 5, 6, 7                            # kinds of answers beside the tasks
 CODES = {"success": 0, "failure": 1, "loop": 2, "missing": 3, "end": 4, "spent": 6, "no frame": 7}
 REFUSED = 9
 
@@ -116,13 +118,27 @@ class Reference:
 
     def __init__(self, module): self.module = module
 
-    def eval(self, q): return self.module.Eval(self.module.read_sheet(q.sheet), q.entry)
+    def eval(self, q): return self.module.Eval(self.module.read_sheet(q.sheet), q.entry, ORDER)
 
     def refused(self, result): return isinstance(result, self.module.Refusal)
 
     def question(self, q):
         table = [UNTOUCHED_NUMBER] * q.x
-        return self.module.question(q.sheet, q.entry, q.variable, q.place, table, [0] * q.y), table
+        return self.module.question(q.sheet, q.entry, q.variable, q.place, table, [0] * q.y, ORDER), table
+
+    def correct(self, q, c, table):
+        """A correction at c over a table, with as many numbers of work slice as the program lends."""
+        return self.module.correct(q.sheet, q.entry, q.variable, q.place, table, [0] * cells_of(len(table)), c, order=ORDER)
+
+    def decided_without_reach(self, q, c, table):
+        """How many cells the same correction decides where only cells at places above c stay."""
+        outcomes = table[::2]
+        return self.module.correct(q.sheet, q.entry, q.variable, q.place, outcomes, outcomes[:], c, order=NO_REACH).count
+
+    def reading(self, q, x, y):
+        """What the writer answers over a table of x numbers, and its output of y bytes."""
+        out = bytearray([UNTOUCHED_BYTE]) * y
+        return self.module.write_reading(q.sheet, q.entry, q.variable, q.place, [0] * x, [0] * cells_of(x), out, ORDER), out
 
     def steps_and_height(self, q):
         """k and h of a success or a failure."""
@@ -151,6 +167,11 @@ class Reference:
 
 
 # ---------------------------------------------------------------- files
+
+def cells_of(numbers):
+    """How many cells have so many numbers of a table, rounded up."""
+    return numbers - numbers // 2
+
 
 def accepted_or_refused(accepted): return "accepted" if accepted else "refused"
 
@@ -192,7 +213,7 @@ class Files:
 class Maker:
     def __init__(self, reference, judge):
         self.reference, self.judge, self.files = reference, judge, Files()
-        self.sources, self.tally, self.bytes_met = [], collections.Counter(), set()
+        self.sources, self.tally, self.bytes_met, self.found = [], collections.Counter(), set(), {}
 
     def judged(self, q, found):
         """Outcome, end, named pair, and who says so."""
@@ -206,9 +227,11 @@ class Maker:
 
     def question(self, q):
         found, table = self.reference.question(q)
+        self.found[q] = found
         number = self.files.request(q, QUESTION, q.x, q.y)
         if self.reference.refused(found):
             four, source, outcome = (REFUSED, found.number, found.line, 0), "reader.py: a refusal", "refused"
+            if q.group != "refused": stop(f"refused with {found.number}: {q}")
         else:
             (outcome, end, named), source = self.judged(q, found)
             variable, place = named or (0, end or 0)
@@ -237,7 +260,7 @@ class Maker:
 
     def run(self, q, budget, numbers):
         """One run, with a slice of so many numbers for the frames."""
-        r = self.reference.module.machine(q.sheet, q.entry, q.variable, q.place, budget, numbers)
+        r = self.reference.module.machine(q.sheet, q.entry, q.variable, q.place, budget, numbers, ORDER)
         number = self.files.request(q, MACHINE, budget, numbers)
         if self.reference.refused(r): four = REFUSED, r.number, r.line, 0
         else: four = CODES[r.outcome], 0, r.end or 0, r.moves
@@ -268,8 +291,7 @@ class Maker:
 
     def writer_answer(self, q, number, x, y):
         """Writes a reading; its bytes and lines."""
-        out = bytearray([UNTOUCHED_BYTE]) * y
-        w = self.reference.module.write_reading(q.sheet, q.entry, q.variable, q.place, [0] * x, [0] * x, out)
+        w, out = self.reference.reading(q, x, y)
         if self.reference.refused(w): four, lines = (REFUSED, w.number, w.line, 0), 0
         else:
             variable, place = w.named or (0, w.end or 0)
@@ -278,7 +300,7 @@ class Maker:
         return out, lines
 
     def checker_answer(self, q, number, reading, lines):
-        c = self.reference.module.check_reading(q.sheet, q.entry, q.variable, q.place, bytes(reading))
+        c = self.reference.module.check_reading(q.sheet, q.entry, q.variable, q.place, bytes(reading), ORDER)
         if self.reference.refused(c): three = REFUSED, c.number, c.line
         else: three = CODES[c.outcome], 0, c.end
         self.files.answer(number, CHECKER, *three, lines, 0)
@@ -316,7 +338,7 @@ class Maker:
 
     def correction(self, stored, q, c, byte, table):
         """A question about a kept entry whose byte at c was corrected; stored is an entry of the same length in the file."""
-        found = self.reference.module.correct(q.sheet, q.entry, q.variable, q.place, table, [0] * len(table), c, order=4)
+        found = self.reference.correct(q, c, table)
         number = self.files.request(q._replace(entry=stored), CORRECTION, c, 256 * len(table) + byte)
         self.files.answer(number, CORRECTED, *self.four(found), summed(table))
         if self.reference.refused(found): self.tally[("corrections", f"refused with {found.number}")] += 1
@@ -324,6 +346,12 @@ class Maker:
             self.tally[("corrections", found.outcome)] += 1
             self.tally[("correction judge", self.judged(q, found)[1])] += 1
         return found
+
+    def put(self, stored, at, x, table):
+        """Makes a number of the kept table another."""
+        number = self.files.request(stored, PUT, at, x)
+        self.files.answer(number, BEFORE, 0, 0, 0, table[at], 0)
+        table[at] = x
 
 
 # ---------------------------------------------------------------- choices
@@ -345,29 +373,29 @@ def choose_machine(maker, asked):
     return spread(small, 50) + spread(large, 6) + spread(without, 16)
 
 
-def cells_of(q): return questions.variables_of(q.sheet) * (len(q.entry) + 1)
-
-
 def run_readings(maker, asked):
-    fits = [(q, o) for q, o in asked if o != "refused" and 49 * cells_of(q) <= OUTPUT_BYTES]
+    fits = [(q, o) for q, o in asked if o != "refused" and 49 * cells_due(q) <= OUTPUT_BYTES]
     results = [q for q, o in fits if o in ("success", "failure")]
-    for q in spread(results, 60): maker.reading(q, cells_of(q), 49 * cells_of(q))
+    for q in spread(results, 60): maker.reading(q, 2 * cells_due(q), 49 * cells_due(q))
     for q in spread([q for q, o in fits if o not in ("success", "failure")], 10): maker.reading(q, NUMBERS, OUTPUT_BYTES)
-    for q in spread(results, 2): maker.reading(q, cells_of(q), 49 * cells_of(q) - 1)
+    for q in spread(results, 2):
+        maker.reading(q, 2 * cells_due(q), 49 * cells_due(q) - 1)
+        maker.reading(q, 2 * cells_due(q) - 1, 49 * cells_due(q))
     rng = questions.generator("damage")
     for i, q in enumerate(spread(results, 24)):
         lines = maker.reference.question(q)[0].count
         at = rng.randrange(49 * lines)
-        # Most often the last digit of a field is changed, so that the line is well formed.
+        # Most often the last digit of a field is changed, so that the line is well formed; sometimes it is the same again.
         if i % 4: at = at - at % 49 + 8 * rng.randrange(6) + 7
-        maker.damage(q, at, 48 + rng.randrange(10))
+        maker.damage(q, at, maker.reference.reading(q, NUMBERS, OUTPUT_BYTES)[1][at] if i % 8 == 7 else 48 + rng.randrange(10))
 
 
 def summary(maker, sizes, ranges):
     out = [f"Questions: {len(maker.sources)}. Requests: {len(maker.files.requests)}. Classes: {ranges}",
            f"Bytes of sheets.txt, entries, questions.txt: {sizes[0]}, {sizes[1]}, {sizes[2]}.", ""]
     for kind in ("kind", "outcome", "source", "outcome and judge", "entry", "byte from 128", "tasks", "machine", "damaged readings", "chains",
-                 "corrections", "correction judge", "corrected byte", "asked place", "retained, reached", "refused with 19"):
+                 "corrections", "correction judge", "corrected byte", "asked place", "retained, reached", "by reach, reached", "reach",
+                 "near the end", "refused with 19", "puts"):
         for (k, name), count in sorted(maker.tally.items()):
             if k == kind: out.append(f"{kind:18} {count:5}  {name}")
         out.append("")
@@ -378,8 +406,9 @@ HEAD = """Where the expected answers of crates/test_questions come from; written
 
 A line for each question: its line in questions.txt, V, the entry's length, variable, place, outcome, the judge of outcome and end, and
 its group. Judged by LPeg: outcome, end and the pair of missing and end are LPeg's, and reader.py agrees. The count of cells and the
-table's sum are always reader.py's, and so are all answers of the machine, the writer and the checker. Corrections have no lines here;
-their answers are reader.py's, and LPeg agrees on outcome, end and the pair of missing and end where it is named as their judge.
+table's sum, over outcomes and reaches, are always reader.py's, and so are all answers of the machine, the writer and the checker.
+Corrections have no lines here; their answers are reader.py's, and LPeg agrees on outcome, end and the pair of missing and end where it is
+named as their judge. Of the corrections near the end, the cells without the reach are those that reader.py decides newly as of order 4.
 
 """
 
@@ -393,7 +422,7 @@ def write_sources(maker, text):
 def check_numbers(maker):
     """What the test has to have at least."""
     count = len(maker.sources)
-    if not 300 <= count <= 650: stop(f"{count} questions")
+    if not 300 <= count <= 700: stop(f"{count} questions")
     for outcome in ("success", "failure", "loop", "missing", "end", "refused"):
         if maker.tally[("outcome", outcome)] < 20: stop(f"too few questions with outcome {outcome}")
     if 2 * maker.tally[("source", "LPeg")] <= count: stop("LPeg judges less than half of the questions")

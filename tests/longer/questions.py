@@ -4,7 +4,8 @@ from collections import namedtuple
 
 from sheets import NATURAL, Sheet, bent_sheet, free_sheet, ordered_sheet, random_text
 
-CELLS = 65536
+CELLS = 32768
+NUMBERS = 2 * CELLS     # of the program's table: a cell is two, outcome and reach
 READING_CELLS = 5349    # so many lines of a reading fit the program's output
 MAX_ENTRY = 4096
 
@@ -18,9 +19,13 @@ def variables_of(sheet):
 
 def question(group, sheet, entry, variable=1, place=0, x=None, y=None):
     data = sheet.bytes() if isinstance(sheet, Sheet) else sheet
-    cells = variables_of(data) * (len(entry) + 1)
-    return Question(group, data, bytes(entry), variable, place, min(CELLS, cells) if x is None else x,
-                    min(CELLS, cells) if y is None else y)
+    cells = min(CELLS, variables_of(data) * (len(entry) + 1))
+    return Question(group, data, bytes(entry), variable, place, 2 * cells if x is None else x, cells if y is None else y)
+
+
+def cells_due(q):
+    """How many cells a question has."""
+    return variables_of(q.sheet) * (len(q.entry) + 1)
 
 
 def longest(variables):
@@ -37,8 +42,8 @@ def natural():
     for name, (grammar, text_of) in NATURAL.items():
         sheet, rng = grammar(), generator(name)
         most = longest(sheet.count)
-        for size in (rng.randrange(220, 320), min(most, rng.randrange(700, 1200)), most):
-            yield from about_text("natural: " + name, sheet, text_of(rng, size), rng)
+        for size in (rng.randrange(220, 320), rng.randrange(700, 1200), most):
+            yield from about_text("natural: " + name, sheet, text_of(rng, min(most, size)), rng)
         short = text_of(rng, max(100, READING_CELLS // sheet.count - 1))
         yield question("natural: " + name, sheet, short)
         yield from broken("natural: " + name, sheet, short, rng)
@@ -60,7 +65,7 @@ def broken(group, sheet, text, rng):
     yield question(group, sheet, text[:at] + b"#" + text[at + 1:])
     at = rng.randrange(len(text) // 2)
     yield question(group, sheet, text[:at] + text[at + 1:])
-    yield question(group, sheet, text + b" (page 12)", x=CELLS, y=CELLS)
+    yield question(group, sheet, text + b" (page 12)", x=NUMBERS, y=CELLS)
 
 
 def letters_replaced(classes):
@@ -124,8 +129,9 @@ def deep():
     for name, sheet, text in (
             ("through C", through_c(), letters), ("through D", through_d(), letters),
             ("through both", through_both(), mixed), ("ring of 3", ring_of_letters(3), letters),
-            ("ring of 12", ring_of_letters(12), letters[-3000:]), ("both sides", both_sides(), b"a" * 2048 + b"b" * 2048),
-            ("nested first", nested_first(6), letters), ("nested first, 9", nested_first(9), letters[:3000] + b"#")):
+            ("ring of 12", ring_of_letters(12), letters), ("both sides", both_sides(), b"a" * 2048 + b"b" * 2048),
+            ("nested first", nested_first(6), letters), ("nested first, 9", nested_first(9), letters[:-1] + b"#")):
+        text = text[-longest(sheet.count):]
         size = len(text)
         yield question("deep: " + name, sheet, text)
         yield question("deep: " + name, sheet, text, 1, size // 2)
@@ -176,11 +182,13 @@ def byte_runs():
 def bytes_and_classes(classes):
     group, rng = "bytes: ", generator("bytes")
     sheet, marked = marked_bytes(classes)
-    text = marked_text(classes, marked)
-    yield question(group + "every byte with its class", sheet, text)
-    yield question(group + "edges with their classes", sheet, marked_text(classes, [rng.choice(edges(classes)) for _ in range(300)]))
+    below, text = [marked_text(classes, [b for b in marked if (b < 128) == low]) for low in (True, False)]
+    yield question(group + "every byte below 128 with its class", sheet, below)
+    yield question(group + "every byte from 128 with its class", sheet, text)
+    pairs = (longest(sheet.count) - 1) // 2
+    yield question(group + "edges with their classes", sheet, marked_text(classes, [rng.choice(edges(classes)) for _ in range(pairs)]))
     for _ in range(6):
-        at = 2 * rng.randrange(60, len(text) // 2)
+        at = 2 * rng.randrange(len(text) // 2)
         other = 48 + (text[at] - 48 + rng.randrange(1, 6)) % 7
         yield question(group + "one class wrong", sheet, text[:at] + bytes([other]) + text[at + 1:])
     runs = class_runs()
@@ -193,8 +201,8 @@ def bytes_and_classes(classes):
         for place in (3 * low, 3 * low - 1):
             yield question(group + "runs from an edge", runs, every, runs.names[f"run {classes[low]}"], place)
     sheet = byte_runs()
-    text = bytes(rng.choice([0, 127, 128, 129, 140, 158, 159, 255]) for _ in range(3500)) + b"."
-    for entry in (text, text[:-1], text[-400:], text[1000:2000] + b"\x01.", text[:1500] + b"\xa0" + text[1500:]):
+    text = bytes(rng.choice([0, 127, 128, 129, 140, 158, 159, 255]) for _ in range(longest(sheet.count) - 2)) + b"."
+    for entry in (text, text[:-1], text[-400:], text[500:1500] + b"\x01.", text[:1000] + b"\xa0" + text[1000:]):
         yield question(group + "0, 127, 128 and 255", sheet, entry)
 
 
@@ -321,7 +329,7 @@ def loops():
         sheet = loop_ring(size, operand)
         n = longest(sheet.count)
         yield question(f"loop: ring through operand {operand}", sheet, b"a" * n, 1, n // 2)
-        yield question(f"loop: ring through operand {operand}", sheet, b"a" * (n // 2), sheet.count - 3, 3)
+        yield question(f"loop: ring through operand {operand}", sheet, b"a" * max(200, n // 2), sheet.count - 3, 3)
     one = Sheet()
     one.rules[1] = (4, 1, 1, 1)
     for place in (0, 4096): yield question(group + "one rule", one, b"a" * 4096, 1, place)
@@ -404,11 +412,52 @@ def costly():
     yield question(group, mirrored(), b"ab" * 1000)
     yield question(group, mirrored(), bytes(rng.choice(b"ab") for _ in range(2000)))
     sheet = tried_twice()
-    for depth in (100, 500, 900):
+    for depth in (100, 400, 640):
         text = b"(" * depth + b"7" + b"),".join([b""] * depth) + b")."
         yield question(group, sheet, text)
-    yield question(group, sheet, b"(" * 700 + b"7" + b"),".join([b""] * 700) + b";.")
-    yield question(group, sheet, b"(" * 1200 + b"7" + b"),".join([b""] * 600))
+    yield question(group, sheet, b"(" * 600 + b"7" + b"),".join([b""] * 600) + b";.")
+    yield question(group, sheet, b"(" * 900 + b"7" + b"),".join([b""] * 450))
+
+
+# ---------------------------------------------------------------- wide sheets
+
+WIDE = 256
+
+
+def widened(sheet):
+    """The sheet with as many variables as there may be; LPeg takes up to 250 rules, so the last ones have none."""
+    while sheet.count < WIDE: sheet.new()
+    return sheet
+
+
+def wide_ring():
+    """A sheet of 256 variables with a text: their cells are all that can be lent."""
+    return widened(ring_of_letters(240)), bytes(97 + i % 3 for i in range(longest(WIDE) - 1)) + b"."
+
+
+def wide():
+    sheet, text = wide_ring()
+    yield question("wide: ring of letters", sheet, text)
+    yield question("wide: ring of letters", sheet, text, 200, len(text) - 1)
+    for place in (40, len(text)): yield question("wide: ring through operand 2", widened(loop_ring(240, 2)), text, 1, place)
+    for number in range(4):
+        rng = generator("wide", number)
+        sheet = widened(free_sheet(rng, 230, 0.5, True) if number == 3 else ordered_sheet(rng, 245, 5))
+        yield question("wide: random", sheet, base_text(number)[-longest(WIDE):])
+
+
+# ---------------------------------------------------------------- numbers lent
+
+def just_enough():
+    """Two sheets with texts, and how many cells they have: in the second all that can be lent."""
+    for sheet, text in ((through_c(), b"a" * 999 + b"."), wide_ring()): yield sheet, text, sheet.count * (len(text) + 1)
+
+
+def lent():
+    """Two numbers of table and one of work slice for each cell; then one number more, where there is one."""
+    for sheet, text, cells in just_enough():
+        yield question("lent: just enough", sheet, text, 1, 0, 2 * cells, cells)
+        if cells < CELLS: yield question("lent: one more", sheet, text, 1, 0, 2 * cells + 1, cells + 1)
 
 
 # ---------------------------------------------------------------- refusals
@@ -417,7 +466,6 @@ def refused():
     sheet = through_c().bytes()
     first, rest = sheet[:26], sheet[26:]
     text = b"a" * 999 + b"."
-    cells = 3 * 1001
     group = "refused"
     for bad in (b"", sheet + b" ", sheet[:-1] + b" ", first + first * 257, b"    x" + sheet[5:], first + rest[:5] + b"   04" + rest[10:],
                 b"    0" + sheet[5:], b"  257" + sheet[5:], first[:5] + b"    4" + sheet[10:], first + rest[26:52] + rest[:26] + rest[52:],
@@ -427,7 +475,9 @@ def refused():
     yield question(group, sheet, b"a" * 4097)
     for variable, place in ((0, 0), (4, 0), (99999999, 0), (1, 1001), (1, 99999999), (4, 1001)):
         yield question(group, sheet, text, variable, place)
-    for x, y in ((cells - 1, cells), (cells, cells - 1), (0, CELLS), (CELLS, 0)): yield question(group, sheet, text, 1, 0, x, y)
+    for sheet, text, cells in just_enough():
+        for x, y in ((2 * cells - 1, cells), (2 * cells, cells - 1), (cells, cells), (0, CELLS), (NUMBERS, 0)):
+            yield question(group, sheet, text, 1, 0, x, y)
 
 
 def all_questions(classes, cheap):
@@ -441,4 +491,6 @@ def all_questions(classes, cheap):
     yield from with_a_change()
     yield from without_order()
     yield from costly()
+    yield from wide()
+    yield from lent()
     yield from refused()

@@ -146,6 +146,20 @@ def names_text(rng, size):
     return fill(rng, size, item, ", ", ".")
 
 
+def plain_words():
+    """Words of small letters with a blank between them, by few rules."""
+    s = Sheet()
+    gap = s.new("gap")
+    s.rules[s.start] = (4, s.cls(3), s.start, gap)
+    s.rules[gap] = (4, s.cls(4), s.start, s.byte("."))
+    return s
+
+
+def plain_words_text(rng, size):
+    def item(): return rng.choice(WORDS)
+    return fill(rng, size, item, " ", ".")
+
+
 def numbers():
     s = Sheet()
     number = s.name("number", s.plus(s.cls(1)))
@@ -363,7 +377,7 @@ def french_ages_text(rng, size):
 
 NATURAL = {
     "dates": (dates, dates_text), "ages": (ages, ages_text), "names": (names, names_text),
-    "numbers": (numbers, numbers_text), "brackets": (brackets, brackets_text),
+    "words": (plain_words, plain_words_text), "numbers": (numbers, numbers_text), "brackets": (brackets, brackets_text),
     "deep brackets": (brackets, deep_brackets_text), "three counts": (three_counts, three_counts_text),
     "remarks": (remarks, remarks_text), "shares": (shares, shares_text), "trades": (trades, trades_text),
     "records": (records, records_text), "accented": (accented, accented_text), "French names": (french_names, french_names_text),

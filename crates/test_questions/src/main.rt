@@ -9,13 +9,15 @@
 //
 //     task 0, question    a table of x numbers and a work slice of y numbers are lent
 //     task 1, machine     the budget is x, and a slice of y numbers is lent for the frames
-//     task 2, reading     a table and a work slice of x numbers and an output of y bytes are lent; what is written is then checked
+//     task 2, reading     a table of x numbers, a work slice and an output of y bytes are lent; what is written is then checked
 //     task 3, damage      a reading is written, its byte at x is made y, and it is checked
 //     task 4, kept        as task 0, and the entry and the table are kept
 //     task 5, correction  the byte at x of the kept entry is made y modulo 256, and the question is asked as a correction at x; y / 256
-//                         numbers of the kept table and a work slice of as many are lent
+//                         numbers of the kept table and a work slice are lent
+//     task 6, put         the number at x of the kept table is made y; nothing is asked
 //
-// What is kept lasts until the next task 4, so that corrections follow one another. A correction takes as many bytes of the kept entry as
+// A cell is two numbers of a table and one of a work slice: with tasks 2 and 5 the work slice has half as many numbers as the table, rounded
+// up. What is kept lasts until the next task 4, so that corrections follow one another. A correction takes as many bytes of the kept entry as
 // the request's entry has; where x is not below that number, no byte is changed and the call is made all the same.
 //
 // An answer is a line of seven fields of 8 columns and byte 10. The first is the number of the request's line, the second is
@@ -27,9 +29,10 @@
 //     4, fault       the request's line is malformed or reaches out of its files or slices; the rest is 0
 //     5, end         the number of bytes read of sheets.txt, entries and questions.txt, and two zeros
 //     6, correction  as for a question; the count is of newly decided cells
+//     7, put         three zeros, the number that stood there before, and 0
 //
 // The codes: 0 success, 1 failure, 2 loop, 3 missing, 4 end, 6 spent, 7 no frame, 9 refused. Table and output are filled before each call
-// but a correction, so that their sums also show what a call must leave unchanged.
+// but a correction, so that their sums also show what a call must leave unchanged. A table's sum is over outcomes and reaches alike.
 ghost use Prim.Native.Nat.{_<_, _≤_};
 ghost use Rattle.io.specs.Counts.{Counts};
 use backtrack::Ending;
@@ -160,6 +163,11 @@ fn numbers_of_claim(claim: Claim, lines: u32) -> Four {
     }
 }
 
+// How many cells have so many numbers of a table, rounded up.
+fn cells_of(numbers: usize) -> usize {
+    numbers - numbers / 2
+}
+
 // The last eight digits of a number.
 fn low_digits(x: usize) -> u32 {
     (x % 100000000) as u32
@@ -268,10 +276,11 @@ fn run_reading(
 ) {
     let x = r.x as usize;
     let y = r.y as usize;
+    let cells = cells_of(x);
     if table.len() < x {
         return print_fault(number);
     }
-    if work.len() < x {
+    if work.len() < cells {
         return print_fault(number);
     }
     if out.len() < y {
@@ -283,7 +292,7 @@ fn run_reading(
         entry,
         r,
         &mut table[0..x],
-        &mut work[0..x],
+        &mut work[0..cells],
         &mut out[0..y],
     );
 }
@@ -359,13 +368,14 @@ fn run_correction(
     work: &mut [u32],
 ) {
     let lent = (r.y / 256) as usize;
+    let cells = cells_of(lent);
     if kept_entry.len() < length {
         return print_fault(number);
     }
     if kept_table.len() < lent {
         return print_fault(number);
     }
-    if work.len() < lent {
+    if work.len() < cells {
         return print_fault(number);
     }
     correct(
@@ -374,11 +384,51 @@ fn run_correction(
         &mut kept_entry[0..length],
         r,
         &mut kept_table[0..lent],
-        &mut work[0..lent],
+        &mut work[0..cells],
     );
 }
 
-// Runs a request on its sheet and its entry, over slices of its own and what is kept.
+// Task 6.
+fn run_put(number: u32, r: Request, kept_table: &mut [u32]) {
+    let x = r.x as usize;
+    if kept_table.len() <= x {
+        return print_fault(number);
+    }
+    let before = kept_table[x];
+    kept_table[x] = r.y;
+    print_answer(number, 7, Four(0, 0, 0, before), 0);
+}
+
+// Tasks 2 and 3, with an output.
+fn run_written(
+    number: u32,
+    sheet: &[u8],
+    entry: &[u8],
+    r: Request,
+    table: &mut [u32],
+    work: &mut [u32],
+) {
+    let mut out = [0u8; 262144];
+    let task = r.task;
+    match task {
+        2 => run_reading(number, sheet, entry, r, table, work, &mut out),
+        3 => run_damage(number, sheet, entry, r, table, work, &mut out),
+        _ => print_fault(number),
+    }
+}
+
+// Tasks 0, 2 and 3, with a table of 32,768 cells.
+fn run_fresh(number: u32, sheet: &[u8], entry: &[u8], r: Request, work: &mut [u32]) {
+    let mut table = [0u32; 65536];
+    let task = r.task;
+    match task {
+        0 => run_question(number, sheet, entry, r, &mut table, work),
+        _ => run_written(number, sheet, entry, r, &mut table, work),
+    }
+}
+
+// Runs a request on its sheet and its entry, over slices of its own and what is kept. The work slice has twice the numbers that the cells of a
+// table need, for the machine's frames.
 fn run(
     number: u32,
     sheet: &[u8],
@@ -387,16 +437,10 @@ fn run(
     kept_entry: &mut [u8],
     kept_table: &mut [u32],
 ) {
-    let mut table = [0u32; 65536];
-    let mut work = [0u32; 65536];
-    let mut out = [0u8; 262144];
-    fill_numbers(&mut work);
+    let mut work = [UNTOUCHED_NUMBER; 65536];
     let task = r.task;
     match task {
-        0 => run_question(number, sheet, entry, r, &mut table, &mut work),
         1 => run_machine(number, sheet, entry, r, &mut work),
-        2 => run_reading(number, sheet, entry, r, &mut table, &mut work, &mut out),
-        3 => run_damage(number, sheet, entry, r, &mut table, &mut work, &mut out),
         4 => run_kept(number, sheet, entry, r, kept_entry, kept_table, &mut work),
         5 => run_correction(
             number,
@@ -407,7 +451,8 @@ fn run(
             kept_table,
             &mut work,
         ),
-        _ => print_fault(number),
+        6 => run_put(number, r, kept_table),
+        _ => run_fresh(number, sheet, entry, r, &mut work),
     }
 }
 
