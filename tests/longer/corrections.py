@@ -7,10 +7,11 @@ from questions import cells_due, generator, variables_of
 CHAINS = 3              # at most so many of a kind with an outcome
 MOST = 5                # corrections of a chain
 LEFT = {"loop": 14, "missing": 12, "end": 6}    # chains with all corrections left of the named pair
-NEAR = 2                # at most so many of a kind with an outcome, with all corrections near the end
+NEAR = 8                # of so many of a kind with an outcome the shortest and the longest, with all corrections near the end
 MANY = 1000             # where only the cells above c stay, these decide so many cells
 FEWER = 10              # and with a reach, so many times fewer
 PUTS = 2                # chains with numbers put into the table
+PUT_CELLS = 12000       # the table has at most so many cells
 FAR = 99999999          # the largest number of a field
 
 OUTCOMES = ("success", "failure", "loop", "missing", "end")
@@ -232,7 +233,7 @@ def run_puts(maker, rng, kept):
     def has_all(q):
         table, c = maker.reference.question(q)[1], len(q.entry) // 2
         return all(results(q, c, table, above, successes) for above in (True, False) for successes in (True, False))
-    for q in rng.sample([q for q in kept if maker.found[q].count >= MANY and has_all(q)], PUTS):
+    for q in rng.sample([q for q in kept if maker.found[q].count >= MANY and cells_due(q) <= PUT_CELLS and has_all(q)], PUTS):
         chain, c = Chain(maker, q), len(q.entry) // 2
         for above in (True, False):
             for one in one_number(rng, chain, c, above): wrong_and_right(chain, c, above, *one)
@@ -293,7 +294,8 @@ def run_near_end(maker, rng, asked):
         if outcome != "refused" and maker.found[q].count >= MANY:
             groups.setdefault((kind_of(q), outcome, q.x > 2 * cells_due(q)), []).append(q)
     for group in groups.values():
-        for q in [q for q in rng.sample(group, min(4 * NEAR, len(group))) if saves(maker, q)][:NEAR]:
+        found = sorted([q for q in rng.sample(group, min(NEAR, len(group))) if saves(maker, q)], key=cells_due)
+        for q in found[:1] + found[1:][-1:]:
             chain, last = Chain(maker, q), len(q.entry) - 1
             near_end(chain, last, byte_for(rng, chain, last))
             near_end(chain, last - 1, byte_for(rng, chain, last - 1))

@@ -343,6 +343,12 @@ def loops():
 def base_text(index): return random_text(generator("text", index), MAX_ENTRY)
 
 
+def random_size(rng, number, sheet):
+    """A length of at least 200 bytes; every third time the longest."""
+    size = rng.randrange(200, longest(sheet.count) + 1)
+    return longest(sheet.count) if number % 3 == 0 else size
+
+
 def without_left_recursion(cheap):
     """Random sheets that LPeg takes; `cheap` says whether LPeg can answer in time, and another is made where it cannot."""
     texts = [base_text(i) for i in range(6)]
@@ -358,8 +364,7 @@ def ordered_questions(number, attempt, texts):
     driven = number % 4 != 3
     variables = rng.randrange(22 if driven else 6, 101 if number % 2 else 40)
     sheet = ordered_sheet(rng, variables, rng.randrange(2, 7), 0.1 if number % 5 == 0 else 0.0, driven)
-    most = longest(sheet.count)
-    size = rng.randrange(200, most + 1)
+    size = random_size(rng, number, sheet)
     text = rng.choice(texts)[-size:]
     group = "random: without left recursion"
     yield question(group, sheet, text)
@@ -371,7 +376,7 @@ def with_a_change():
     for number in range(30):
         rng = generator("bent", number)
         sheet = bent_sheet(rng, rng.randrange(24, 70), rng.randrange(2, 7))
-        size = rng.randrange(200, longest(sheet.count) + 1)
+        size = random_size(rng, number, sheet)
         text = base_text(number % 6)[-size:]
         yield question("random: two operands changed", sheet, text, 1, rng.choice([0, 0, size // 2]))
 
@@ -381,7 +386,7 @@ def without_order():
         rng = generator("free", number)
         driven = number % 5 < 3
         sheet = free_sheet(rng, rng.randrange(2, 60), rng.choice([0.3, 0.5, 0.7]), driven)
-        size = rng.randrange(200, longest(sheet.count) + 1)
+        size = random_size(rng, number, sheet)
         text = base_text(number % 6)[-size:]
         if driven: yield question("random: any rules", sheet, text)
         else: yield question("random: any rules", sheet, text, rng.randrange(1, sheet.count + 1), rng.randrange(size + 1))
