@@ -397,7 +397,7 @@ def summary(maker, sizes, ranges):
                  "corrections", "correction judge", "corrected byte", "asked place", "retained, reached", "by reach, reached", "reach",
                  "near the end", "refused with 19", "puts"):
         for (k, name), count in sorted(maker.tally.items()):
-            if k == kind: out.append(f"{kind:18} {count:5}  {name}")
+            if k == kind: out.append(f"{kind:17} {count:6}  {name}")
         out.append("")
     return "\n".join(out)
 
