@@ -476,21 +476,21 @@ fn any_cells(random: &mut Random, cells: usize, n: usize) -> Vec<u32> {
     places.flat_map(cell).collect()
 }
 
-/// The entry `aaaa` under two rules of a byte `a` each, its byte at c corrected. Variable 1 at 0 is asked, which takes the first byte and reaches no
-/// other pair: what variable 2 holds is retained or blanked, and nothing else happens to it.
-fn two_rules(c: u32) -> Case {
+/// An entry of n bytes `a` under two rules of a byte `a` each, its byte at c corrected. Variable 1 at 0 is asked, which takes the first byte and reaches
+/// no other pair: what variable 2 holds is retained or blanked, and nothing else happens to it.
+fn two_rules(n: u32, c: u32) -> Case {
     let lines = [[2, 1, 46, 0, 0], [1, 2, 97, 0, 0], [2, 2, 97, 0, 0]];
     Case {
         sheet: lines.map(questions::row).concat().into_bytes(),
-        entry: b"aaaa".to_vec(),
+        entry: vec![b'a'; n as usize],
         variables: 2,
         c,
     }
 }
 
 /// The correction at c over a table that is blank but for the cell of variable 2 at a place: what that cell holds afterwards, or the refusal's number.
-fn one_cell(c: u32, place: u32, cell: Cell) -> Result<Cell, u32> {
-    let (case, at) = (two_rules(c), 2 * (5 + place as usize));
+fn one_cell(n: u32, c: u32, place: u32, cell: Cell) -> Result<Cell, u32> {
+    let (case, at) = (two_rules(n, c), 2 * (n + 1 + place) as usize);
     let mut table = vec![0; 2 * case.cells()];
     table[at..at + 2].copy_from_slice(&cell);
     let said = case.correction(&mut Random(20), START, &mut table)?;
@@ -499,7 +499,8 @@ fn one_cell(c: u32, place: u32, cell: Cell) -> Result<Cell, u32> {
     let mut others = table;
     others[at..at + 2].fill(0);
     assert_eq!(others[..2], [6, 1]);
-    assert_eq!(others[2..], [0; 18], "{cell:?} at {place}, {case}");
+    let blank = others[2..].iter().all(|number| *number == 0);
+    assert!(blank, "{cell:?} at {place}, {case}");
     Ok(after)
 }
 
@@ -512,26 +513,31 @@ fn every_kind(c: u32, place: u32) -> Vec<Cell> {
     outcomes.flat_map(beside).collect()
 }
 
-/// They stay, are blanked or refused, for each reason at places up to c and above c. The outcome 0 has reach 0 in a kept table, and another reach
-/// beside it says nothing: above c it may stay or not.
+/// A cell stays, is blanked or refused as document 02 says: why it is refused, whether it stays, and whether it stands above c. The outcome 0 has reach 0
+/// in a kept table, and another reach beside it says nothing: above c it may stay or not.
+fn as_said(n: u32, c: u32, place: u32, cell: Cell) -> (Option<Fault>, bool, bool) {
+    let correction = Correction { n, c };
+    let (fault, stays) = (correction.fault(place, cell), correction.stays(place, cell));
+    let said = one_cell(n, c, place, cell);
+    let shown = format!("{cell:?} at {place} of {n}, corrected at {c}");
+    match (fault, stays) {
+        (Some(_), _) => assert_eq!(said, Err(19), "{shown}"),
+        (None, false) => assert_eq!(said, Ok(BLANK), "{shown}"),
+        (None, true) if cell[0] == 0 => {
+            assert_eq!(said.map(|[outcome, _]| outcome), Ok(0), "{shown}");
+        }
+        (None, true) => assert_eq!(said, Ok(cell), "{shown}"),
+    }
+    (fault, stays, c < place)
+}
+
+/// For each reason, at places up to c and above c.
 #[test]
 fn every_cell() {
     let mut met = BTreeSet::new();
     for (c, place) in (0..4).flat_map(|c| (0..=4).map(move |place| (c, place))) {
-        let correction = two_rules(c).by_document();
         for cell in every_kind(c, place) {
-            let (fault, stays) = (correction.fault(place, cell), correction.stays(place, cell));
-            met.insert((fault, stays, c < place));
-            let said = one_cell(c, place, cell);
-            let shown = format!("{cell:?} at {place}, corrected at {c}");
-            match (fault, stays) {
-                (Some(_), _) => assert_eq!(said, Err(19), "{shown}"),
-                (None, false) => assert_eq!(said, Ok(BLANK), "{shown}"),
-                (None, true) if cell[0] == 0 => {
-                    assert_eq!(said.map(|[outcome, _]| outcome), Ok(0), "{shown}");
-                }
-                (None, true) => assert_eq!(said, Ok(cell), "{shown}"),
-            }
+            met.insert(as_said(4, c, place, cell));
         }
     }
     let reasons = [
@@ -546,12 +552,26 @@ fn every_cell() {
     assert_eq!(met, possible);
 }
 
+/// A single cell at every place of longer entries, around multiples of 16: nothing that is not blank is passed over.
+#[test]
+fn every_place() {
+    for n in [14_u32, 15, 16, 17, 30, 31, 32, 33, 47, 63] {
+        for place in 0..=n {
+            for c in [0, place.saturating_sub(1), place.min(n - 1), n / 2, n - 1] {
+                for cell in [[1, c], [1, c + 1], [5 + n, n], [6 + n, c], [2, 0], [0, 7]] {
+                    as_said(n, c, place, cell);
+                }
+            }
+        }
+    }
+}
+
 /// Refusals 18 and 19 at their edges, and what stays, by hand: n is 4.
 #[test]
 fn edges() {
     for c in [0, 3, 4, 5, u32::MAX] {
         let said = if c < 4 { Ok([1, 9]) } else { Err(18) };
-        assert_eq!(one_cell(c, 4, [1, 9]), said, "{c}");
+        assert_eq!(one_cell(4, c, 4, [1, 9]), said, "{c}");
     }
     // Behind the corrected byte 5 + n is the greatest outcome; a success may end at its place and not left of it, whatever its reach is beyond that;
     // success and failure reach their place at least.
@@ -574,7 +594,7 @@ fn edges() {
         ([4, 9], true),
     ] {
         let said = if stays { Ok(cell) } else { Err(19) };
-        assert_eq!(one_cell(1, 2, cell), said, "{cell:?}");
+        assert_eq!(one_cell(4, 1, 2, cell), said, "{cell:?}");
     }
     // At the corrected byte success and failure stay whose reach is no greater, and come under 19 too; everything else is blanked, whatever it is.
     for (cell, said) in [
@@ -599,10 +619,10 @@ fn edges() {
         ([2, 9], Ok(BLANK)),
         ([0, 7], Ok(BLANK)),
     ] {
-        assert_eq!(one_cell(2, 2, cell), said, "{cell:?}");
+        assert_eq!(one_cell(4, 2, 2, cell), said, "{cell:?}");
     }
     // 18 comes before 19.
-    assert_eq!(one_cell(4, 4, [10, 0]), Err(18));
+    assert_eq!(one_cell(4, 4, 4, [10, 0]), Err(18));
 }
 
 /// A cell with the outcome 0 counts as blank, whatever its reach: its pair is decided anew, and counted.
