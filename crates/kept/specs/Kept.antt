@@ -13,7 +13,7 @@ use Rattle.kept.specs.Differs.{DiffersAt}
 abbrev pub isResult : ℕ → Bool
 isResult o = eqb o 1 || not (ltb o 5)
 
--- Its reach is at most c: it looked at bytes before c only.
+-- Such a cell whose reach is at most c: what it holds was found by looking at bytes before c only.
 abbrev pub looksBefore : ℕ → ℕ × ℕ → Bool
 looksBefore c k = isResult (k .0) && not (ltb c (k .1))
 
