@@ -16,7 +16,7 @@ use Rattle.grammar.proofs.Accepted.{grammar-in-range}
 use Rattle.grammar.proofs.Fitting.{within-both}
 use Rattle.grammar.proofs.Held.{rules-held}
 use Rattle.grammar.proofs.Told.{told-refused, told-read}
-use Rattle.rules.specs.Admission.{Admission}
+use Rattle.rules.specs.Admission.{Admits, Admission}
 use Rattle.schema.specs.Derivation.{_at_}
 use Rattle.schema.specs.Handed.{Handed, asked, handed}
 use Rattle.schema.specs.Table.{Within}
@@ -24,9 +24,16 @@ use Rattle.schema.proofs.Tested.{asked-by}
 use Rattle.schema.proofs.Handed.{handed-sheet, handed-input, handed-pair}
 
 -- The promise, from what the call comes to.
-pub admits : (s input : List ℕ) (A p : ℕ) (before after : List ℕ) (r : Sheet) {o : Checked Grammar} → after ≡ stored (sheet s) before
-    → handed s (asked input (A at p)) ≡ o → told r ≡ lineOne o → Admission s input A p before after r
-admits s input A p before after r e f t = record { says = t ∙ ap lineOne (sym f); stores = e }
+pub admits : (s : List ℕ) (h : Handed) (before after : List ℕ) (r : Sheet) {o : Checked Grammar} → after ≡ stored (sheet s) before → handed s h ≡ o
+    → told r ≡ lineOne o → Admits s h before after r
+admits s h before after r e f t = record { says = t ∙ ap lineOne (sym f); stores = e }
+
+-- Of any call: the array holds the rules of the grammar that is accepted,
+pub rules-admitted : (s : List ℕ) (h : Handed) (before after : List ℕ) (r : Sheet) → Admits s h before after r → (g : Grammar) → handed s h ≡ accepted g
+    → ruleIn after ≡ g .rule
+rules-admitted s h before after r a g e =
+    let q : sheet s ≡ accepted g = handed-sheet s h g e in
+    ap ruleIn (a .stores ∙ ap (λ (o : Checked Grammar). stored o before) q) ∙ rules-held s g q
 
 -- The question is accepted, the array holds the rules, and what is asked is within bounds.
 pub record Admitted (s input : List ℕ) (A p : ℕ) (after : List ℕ) (l : Line) : Type 0 where
@@ -50,7 +57,7 @@ module _ (s input : List ℕ) (A p : ℕ) (before after : List ℕ) (r : Sheet) 
         accepts = t .accepts;
         variables-are = t .variables-are;
         variables-few = grammar-in-range s g q .1;
-        rules-are = ap ruleIn (a .stores ∙ ap (λ (o : Checked Grammar). stored o before) q) ∙ rules-held s g q;
+        rules-are = rules-admitted s (asked input (A at p)) before after r a g (t .accepts);
         pair-within = handed-pair s (asked input (A at p)) g (t .accepts) (A at p) refl;
         input-short = handed-input s (asked input (A at p)) g (t .accepts);
       }

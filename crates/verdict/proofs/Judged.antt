@@ -1,76 +1,115 @@
--- The verdict, from the reading of its sheet on. Assumes nothing.
-use mathlib.Core.Path.{_≡_, sym, ap, _∙_, subst}
-use mathlib.Core.Bool.{Bool, true, false, cond, not, _||_}
+-- The verdict: its tests, from the reading of its sheet on, and the answer to what they admit. Assumes nothing.
+use mathlib.Core.Path.{_≡_, refl, sym, _∙_, subst}
+use mathlib.Core.Bool.{Bool, cond, not, _||_}
 use mathlib.Core.List.{List}
 use Prim.Native.Nat.{ℕ, _*_, _≤_}
 use lib.Dec.{ltb}
 use lib.ListN.{length}
+use borrow.Author.Tests.{le-ltb}
 use Rattle.grammar.specs.Refusal.{Checked, refused, accepted}
+use Rattle.grammar.specs.Rule.{Rule}
 use Rattle.grammar.specs.Sheet.{Grammar, sheet}
-use Rattle.grammar.specs.Promise.{SheetPromise, stored}
+use Rattle.grammar.specs.Promise.{SheetPromise, told, lineOne}
 use Rattle.grammar.specs.Words.{ruleIn}
 use Rattle.grammar.specs.declared.sheet.Grammar.{Grammar as Line}
 use Rattle.grammar.specs.declared.sheet.Sheet.{Sheet}
 use Rattle.grammar.specs.declared.sheet.Sheet.the-variants.{Read, Refused}
-use Rattle.grammar.proofs.Held.{rules-held}
-use Rattle.grammar.proofs.Told.{Reads, told-refused, told-read}
+use Rattle.grammar.proofs.Accepted.{grammar-in-range}
+use Rattle.grammar.proofs.Told.{Reads, told-refused, told-read, line-says}
 use Rattle.schema.specs.Derivation.{_at_}
-use Rattle.schema.specs.Handed.{handed, verdictOf}
+use Rattle.schema.specs.Handed.{Handed, handed, verdictOf}
 use Rattle.schema.specs.Table.{Within, cells}
 use Rattle.schema.specs.Verdict.{closedBy}
+use Rattle.schema.proofs.Handed.{handed-sheet, handed-input, handed-slices}
 use Rattle.schema.proofs.SheetClosed.{start-within}
 use Rattle.schema.proofs.Tested.{handed-refused, verdict-by}
+use Rattle.rules.specs.Admission.{Admits}
+use Rattle.rules.proofs.Admitted.{admits, rules-admitted}
 use Rattle.finish.specs.Reply.{Reply}
 use Rattle.memo.specs.Answer.{Says}
 use Rattle.memo.specs.Ask.{AskReady}
+use Rattle.memo.proofs.Ready.{ready}
 use Rattle.verdict.specs.Verdict.{judged, Judges}
-use Rattle.memo.proofs.Ready.{few-variables, ready, says-of}
 
-module _ {s before after : List ℕ} {r : Sheet} (promise : SheetPromise s before after r) (input table work : List ℕ) where
+-- ---- The tests.
+
+module _ {s before after : List ℕ} {r : Sheet} (promise : SheetPromise s before after r) (input : List ℕ) (table work : ℕ) where
   -- Refused with the sheet.
-  pub refused-sheet : {table′ work′ numbers : List ℕ} {x l : ℕ} → r ≡ Refused x l → numbers ≡ judged (length input) (refused x l) → table′ ≡ table → work′ ≡ work
-      → Judges (handed s (verdictOf input (length table) (length work))) input table table′ work work′ numbers
-  refused-sheet {x = x} {l = l} e n k m =
-      rw (handed-refused s (verdictOf input (length table) (length work)) x l (told-refused (sheet s) r x l (promise .says) e)) (n, k, m)
+  pub refused-sheet : {x l : ℕ} → r ≡ Refused x l → Admits s (verdictOf input table work) before after (Refused x l)
+  refused-sheet {x} {l} e =
+      admits s (verdictOf input table work) before after (Refused x l) (promise .stores)
+      (handed-refused s (verdictOf input table work) x l (told-refused (sheet s) r x l (promise .says) e)) refl
 
   module _ {l : Line} (e : r ≡ Read l) where
     read : Reads (sheet s) l
     read = told-read (sheet s) r l (promise .says) e
 
-    rules-are : ruleIn after ≡ read .grammar .rule
-    rules-are = ap ruleIn (promise .stores ∙ ap (λ (o : Checked Grammar). stored o before) (read .accepts)) ∙ rules-held s (read .grammar) (read .accepts)
-
     -- V is at most 256.
     pub few : l .variables ≤ 256
-    few = few-variables s (read .grammar) (read .accepts) (read .variables-are) rules-are
+    few = subst (λ (n : ℕ). n ≤ 256) (read .variables-are) (grammar-in-range s (read .grammar) (read .accepts) .1)
 
+    -- Whether the input is too long, whether it is closed, and whether the slices are too small.
     module _ {a b c : Bool} (long : ltb 4096 (length input) ≡ a) (closed : b ≡ closedBy (l .endmarker) input)
-        (small : c ≡ (ltb (length table) (2 * cells (l .variables) (length input)) || ltb (length work) (cells (l .variables) (length input)))) where
-      follows : handed s (verdictOf input (length table) (length work))
-          ≡ cond a (refused 6 0) (cond (not b) (refused 7 0) (cond c (refused 10 0) (accepted (read .grammar))))
-      follows = verdict-by s input (read .grammar) (length table) (length work) a b c (read .accepts) long (rw (read .endmarker-is) (sym closed)) (rw (read .variables-are) (sym small))
+        (small : c ≡ (ltb table (2 * cells (l .variables) (length input)) || ltb work (cells (l .variables) (length input)))) where
+      follows : handed s (verdictOf input table work) ≡ cond a (refused 6 0) (cond (not b) (refused 7 0) (cond c (refused 10 0) (accepted (read .grammar))))
+      follows = verdict-by s input (read .grammar) table work a b c (read .accepts) long (rw (read .endmarker-is) (sym closed)) (rw (read .variables-are) (sym small))
 
-      -- Refused with 6, 7 or 10.
-      pub refused-then : {table′ work′ numbers : List ℕ} {x : ℕ}
-          → ((g : Grammar) → cond a (refused 6 0) (cond (not b) (refused 7 0) (cond c (refused 10 0) (accepted g))) ≡ refused x 0)
-          → numbers ≡ judged (length input) (refused x 0) → table′ ≡ table → work′ ≡ work
-          → Judges (handed s (verdictOf input (length table) (length work))) input table table′ work work′ numbers
-      refused-then h n k m = rw (follows, h (read .grammar)) (n, k, m)
+      -- Refused with 6, 7 or 10,
+      pub refused-then : {x : ℕ} → ((g : Grammar) → cond a (refused 6 0) (cond (not b) (refused 7 0) (cond c (refused 10 0) (accepted g))) ≡ refused x 0)
+          → Admits s (verdictOf input table work) before after (Refused x 0)
+      refused-then {x} h = admits s (verdictOf input table work) before after (Refused x 0) (promise .stores) (follows ∙ h (read .grammar)) refl
 
-      -- What asking is handed.
-      pub ask-ready : length input ≤ 4096 → c ≡ false → AskReady (ruleIn after) input (l .variables) (l .start) 0 table work
-      ask-ready short h =
-          ready s (read .grammar) (read .accepts) (read .variables-are) rules-are input table work (l .start) 0 short
-          (subst (λ (A : ℕ). Within (read .grammar .variables) (length input) A 0) (read .start-is) (start-within s (read .grammar) (read .accepts))) (sym small ∙ h)
+      -- or admitted.
+      pub admitted-then : ((g : Grammar) → cond a (refused 6 0) (cond (not b) (refused 7 0) (cond c (refused 10 0) (accepted g))) ≡ accepted g)
+          → Admits s (verdictOf input table work) before after (Read l)
+      admitted-then h = admits s (verdictOf input table work) before after (Read l) (promise .stores) (follows ∙ h (read .grammar)) (sym (line-says read))
 
-      -- The verdict.
-      pub judges : {table′ work′ numbers : List ℕ} {t : Checked Reply} → a ≡ false → b ≡ true → c ≡ false
-          → Says (ruleIn after) (l .variables) input (l .start at 0) table table′ work work′ t → numbers ≡ judged (length input) t
-          → Judges (handed s (verdictOf input (length table) (length work))) input table table′ work work′ numbers
-      judges {table′} {work′} {numbers} {t} f g h answered n =
-          rw (follows, f, g, h) (
-            t,
-            n,
-            subst (λ (A : ℕ). Says (read .grammar .rule) (read .grammar .variables) input (A at 0) table table′ work work′ t) (sym (read .start-is))
-                (says-of s (read .grammar) (read .accepts) (read .variables-are) rules-are input (l .start at 0) table table′ work work′ t answered),
-          )
+-- ---- What an admission gives its caller.
+
+module _ (s input table work : List ℕ) {before after : List ℕ} {r : Sheet} (admission : Admits s (verdictOf input (length table) (length work)) before after r) where
+  abbrev asked : Handed
+  asked = verdictOf input (length table) (length work)
+
+  -- The refusal,
+  pub not-admitted : {x l : ℕ} → r ≡ Refused x l → handed s (verdictOf input (length table) (length work)) ≡ refused x l
+  not-admitted {x} {l} e = told-refused (handed s asked) r x l (admission .says) e
+
+  module _ {l : Line} (e : r ≡ Read l) where
+    -- or the accepted grammar,
+    pub admitted : Reads (handed s (verdictOf input (length table) (length work))) l
+    admitted = told-read (handed s asked) r l (admission .says) e
+
+    reads : sheet s ≡ accepted (admitted .grammar)
+    reads = handed-sheet s asked (admitted .grammar) (admitted .accepts)
+
+    rules-are : ruleIn after ≡ admitted .grammar .rule
+    rules-are = rules-admitted s asked before after r admission (admitted .grammar) (admitted .accepts)
+
+    -- which may be asked about its start variable at 0.
+    pub ask-ready : AskReady (ruleIn after) input (l .variables) (l .start) 0 table work
+    ask-ready =
+        let room = handed-slices s asked (admitted .grammar) (admitted .accepts) (length table) (length work) refl in
+        ready s (admitted .grammar) reads (admitted .variables-are) rules-are input table work (l .start) 0
+        (handed-input s asked (admitted .grammar) (admitted .accepts))
+        (subst (λ (A : ℕ). Within (admitted .grammar .variables) (length input) A 0) (admitted .start-is) (start-within s (admitted .grammar) reads))
+        (rw (← admitted .variables-are, le-ltb _ _ (room .0), le-ltb _ _ (room .1)))
+
+    -- What holds of the array's rules and of line 1 holds of the grammar.
+    pub of-grammar : (P : (ℕ → Rule) → ℕ → ℕ → Type 0) → P (ruleIn after) (l .variables) (l .start)
+        → P (admitted .grammar .rule) (admitted .grammar .variables) (admitted .grammar .start)
+    of-grammar P h =
+        subst (λ (A : ℕ). P (admitted .grammar .rule) (admitted .grammar .variables) A) (sym (admitted .start-is))
+        (subst (λ (n : ℕ). P (admitted .grammar .rule) n (l .start)) (sym (admitted .variables-are)) (subst (λ (f : ℕ → Rule). P f (l .variables) (l .start)) rules-are h))
+
+  -- ---- The verdict: refused,
+
+  pub refused-verdict : {table′ work′ : List ℕ} {x l : ℕ} → r ≡ Refused x l → table′ ≡ table → work′ ≡ work
+      → Judges (handed s (verdictOf input (length table) (length work))) input table table′ work work′ (judged (length input) (refused x l))
+  refused-verdict e k m = rw (not-admitted e) (refl, k, m)
+
+  -- or answered.
+  pub judges : {l : Line} → r ≡ Read l → {table′ work′ numbers : List ℕ} {t : Checked Reply}
+      → Says (ruleIn after) (l .variables) input (l .start at 0) table table′ work work′ t → numbers ≡ judged (length input) t
+      → Judges (handed s (verdictOf input (length table) (length work))) input table table′ work work′ numbers
+  judges e {table′} {work′} {t = t} answered n =
+      rw (admitted e .accepts) (t, n, of-grammar e (λ f v A. Says f v input (A at 0) table table′ work work′ t) answered)

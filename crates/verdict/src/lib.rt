@@ -2,7 +2,9 @@
 ghost use mathlib.Core.Path.{_≡_};
 ghost use lib.Dec.{eqb};
 ghost use lib.ListN.{length};
+ghost use Rattle.schema.specs.Handed.{verdictOf};
 ghost use Rattle.schema.specs.Verdict.{closedBy};
+ghost use Rattle.rules.specs.Admission.{Admits};
 ghost use Rattle.finish.specs.Reply.{told};
 ghost use Rattle.verdict.specs.Verdict.{numbers, judged, VerdictPromise};
 use finish::Answer;
@@ -79,33 +81,46 @@ pub fn numbers_of(judgement: Judgement) -> [u32; 4]
     }
 }
 
+// The grammar of a sheet, its rules in the lent array, for a verdict on an input with slices of these lengths; or the first of refusals 1 to 7
+// and 10.
+pub fn admit_verdict(
+    sheet: &[u8],
+    input: &[u8],
+    table: usize,
+    work: usize,
+    rules: &mut Rules,
+) -> Sheet
+    ensures { λ r. ⌜ Admits (now (sheet .entry)) (verdictOf (now (input .entry)) table work) (now (rules .entry)) (now (rules .exit)) r ⌝ }
+{
+    let read = read_sheet(sheet, rules);
+    match read {
+        Sheet::Refused(number, line) => Sheet::Refused(number, line),
+        Sheet::Read(grammar) => {
+            if 4096 < input.len() {
+                return Sheet::Refused(6, 0);
+            }
+            if !closed_by(grammar.endmarker, input) {
+                return Sheet::Refused(7, 0);
+            }
+            if too_small(grammar.variables, input.len(), table, work) {
+                return Sheet::Refused(10, 0);
+            }
+            Sheet::Read(grammar)
+        }
+    }
+}
+
 // The verdict on an input, over a lent table and a lent work slice.
 pub fn verdict(sheet: &[u8], input: &[u8], table: &mut [u32], work: &mut [u32]) -> Judgement
     ensures { λ r. ⌜ VerdictPromise (now (sheet .entry)) (now (input .entry)) (now (table .entry)) (now (table .exit)) (now (work .entry)) (now (work .exit)) r ⌝ }
 {
     let mut rules: Rules = [0u32; 256];
-    let read = read_sheet(sheet, &mut rules);
-    match read {
+    let admission = admit_verdict(sheet, input, table.len(), work.len(), &mut rules);
+    match admission {
         Sheet::Refused(number, line) => Judgement::Refused(number, line),
         Sheet::Read(grammar) => {
-            if 4096 < input.len() {
-                return Judgement::Refused(6, 0);
-            }
-            if !closed_by(grammar.endmarker, input) {
-                return Judgement::Refused(7, 0);
-            }
-            if too_small(grammar.variables, input.len(), table.len(), work.len()) {
-                return Judgement::Refused(10, 0);
-            }
-            let answer = ask(
-                &rules,
-                input,
-                grammar.variables,
-                grammar.start,
-                0,
-                table,
-                work,
-            );
+            let variables = grammar.variables;
+            let answer = ask(&rules, input, variables, grammar.start, 0, table, work);
             judge(answer, input.len())
         }
     }
