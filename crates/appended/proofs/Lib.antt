@@ -1,3 +1,4 @@
 -- Text added at the end of an input: why it comes again.
 pub mod Appended
 pub mod Answered
+pub mod Openings

@@ -16,6 +16,10 @@ use Rattle.schema.specs.Machine.{says, ran}
 use Rattle.finish.specs.Reply.{Reply, outcomeOf, told}
 use Rattle.memo.specs.Answer.{QuestionPromise}
 use Rattle.verdict.specs.Verdict.{numbers, judged, VerdictPromise}
+use Rattle.opening.specs.Opening as opening
+use Rattle.opening.specs.Opening.{OpeningPromise}
+use Rattle.opening.specs.declared.Prefix.{Prefix}
+use Rattle.opening.proofs.Promised.{opening-follows}
 use Rattle.writer.specs.Writer.{WriterPromise}
 use Rattle.finish.specs.declared.Answer.{Answer}
 use Rattle.verdict.specs.declared.Judgement.{Judgement}
@@ -33,7 +37,7 @@ use Rattle.demands.proofs.Demand3 as three
 
 -- ---- Demand 1. "A caller may pass anything .., and the call ends: with an outcome, with the machine's spent or no frame, or with one numbered refusal
 -- under exactly the condition in document 01, its table and output then unchanged." That each call ends and meets its contract, whatever it is
--- handed, is what the contracts say, which have no `requires`. For the exported calls: entryreader proofs/Demand1.antt;
+-- handed, is what the contracts say, which have no `requires`. For the exported calls: entryreader proofs/Demand1.antt and Opened.antt;
 -- for the program's output: proofs/Output.antt; for the correction of document 02, here and in demand 3: proofs/Corrected.antt.
 
 -- The question.
@@ -50,6 +54,14 @@ pub demand-1-verdict : (s input table table′ work work′ : List ℕ) (r : Jud
     × (verdictTold r ≡ refused x l → (table′ ≡ table) × (work′ ≡ work))
 demand-1-verdict s input table table′ work work′ r promise x l =
     let f = one.verdict-follows s input table table′ work work′ r promise in
+    (refused-exactly f x l, then-unchanged f x l)
+
+-- The opening of document 02, order 7: refused as the verdict.
+pub demand-1-opening : (s input table table′ work work′ : List ℕ) (r : Prefix) → OpeningPromise s input table table′ work work′ r
+    → (x l : ℕ) → ((opening.told r ≡ refused x l) ↔ Refuses s (verdictOf input (length table) (length work)) x l)
+    × (opening.told r ≡ refused x l → (table′ ≡ table) × (work′ ≡ work))
+demand-1-opening s input table table′ work work′ r promise x l =
+    let f = opening-follows s input table work table′ work′ r promise in
     (refused-exactly f x l, then-unchanged f x l)
 
 -- The machine.

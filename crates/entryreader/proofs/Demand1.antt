@@ -83,14 +83,14 @@ returned-unchanged (accepted a) numbers answer answer′ r returns reports d = a
 
 -- The same of a call that answers as `handed` says.
 module _ {A : Type 0} {s : List ℕ} {h : Handed} {t : Checked A} {unchanged : Type 0} (follows : Follows A s h t unchanged) {r : ℕ} (returns : r ≡ returned t) where
-  follows-refused : (x : ℕ) → (r ≡ 100 + x) ↔ ((l : ℕ) × Refuses s h x l)
+  pub follows-refused : (x : ℕ) → (r ≡ 100 + x) ↔ ((l : ℕ) × Refuses s h x l)
   follows-refused = returned-refused t (Refuses s h) (called.refused-exactly follows) returns
 
-  follows-answered : (r ≡ 0) ↔ ((x l : ℕ) → ¬ Refuses s h x l)
+  pub follows-answered : (r ≡ 0) ↔ ((x l : ℕ) → ¬ Refuses s h x l)
   follows-answered = returned-answered t (Refuses s h) (called.refused-exactly follows) returns
 
   -- Where it does not return 0, everything is as it was, the answer too.
-  follows-unchanged : (numbers : A → List ℕ) (answer answer′ : List ℕ) → answer′ ≡ reported numbers answer t → r ≢ 0 → unchanged × (answer′ ≡ answer)
+  pub follows-unchanged : (numbers : A → List ℕ) (answer answer′ : List ℕ) → answer′ ≡ reported numbers answer t → r ≢ 0 → unchanged × (answer′ ≡ answer)
   follows-unchanged numbers answer answer′ reports d =
       let k = returned-unchanged t numbers answer answer′ r returns reports d in
       (called.then-unchanged follows (k .0) (k .1) (k .2), k .3)

@@ -4,3 +4,4 @@ pub mod Coded
 pub mod Reported
 pub mod Demand1
 pub mod Shortened
+pub mod Opened

@@ -1,2 +1,3 @@
 -- What the calls for programs in other languages promise.
 pub mod Codes
+pub mod Opened

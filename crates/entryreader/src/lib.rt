@@ -3,13 +3,16 @@ ghost use Prim.Native.Nat.{_≤_};
 ghost use mathlib.Core.Path.{_≡_};
 ghost use Rattle.schema.specs.Exported.{returned, reported, Fits};
 ghost use Rattle.grammar.specs.Promise.{told as read};
+ghost use Rattle.opening.specs.Opening.{told as opens};
 ghost use Rattle.shorthand.specs.Promise.{told};
 ghost use Rattle.verdict.specs.Verdict.{numbers};
 ghost use Rattle.reports.specs.Numbers.{WriterNumbers, CheckNumbers};
 ghost use Rattle.entryreader.specs.Codes.{sheetNumbers, SheetNumbers, codeOf, VerdictCode, JudgeNumbers, QuestionNumbers, CorrectionNumbers, lengthNumbers, ShorthandNumbers};
+ghost use Rattle.entryreader.specs.Opened.{openingNumbers, OpeningNumbers};
 use grammar::sheet::Rules;
 use grammar::sheet::Sheet;
 use grammar::sheet::read_sheet;
+use opening::Prefix;
 use reports::report;
 use reports::report_check;
 use reports::report_write;
@@ -182,4 +185,39 @@ pub extern "C" fn entryreader_shorthand(text: &[u8], out: &mut [u8], answer: &mu
 {
     let compiled = shorthand::compile(text, out);
     report_length(compiled, answer)
+}
+
+// Stores 1 and the least number of bytes, or 0 and 0 where there is none, and returns 0; or 100 plus the number of a refusal.
+fn report_opening(found: Prefix, out: &mut [u32; 2]) -> u32
+    requires { ⌜ Fits (λ _. 0) (opens found) ⌝ }
+    ensures returns { λ r. ⌜ r ≡ returned (opens found) ⌝ }
+    ensures reports { λ _. ⌜ now (out .exit) ≡ reported openingNumbers (now (out .entry)) (opens found) ⌝ }
+{
+    match found {
+        Prefix::Least(m) => {
+            *out = [1, m];
+            0
+        }
+        Prefix::None => {
+            *out = [0, 0];
+            0
+        }
+        Prefix::Refused(number, _) => 100 + number,
+    }
+}
+
+// The least opening that loops: 0, with 1 and its number of bytes in the answer, or 0 and 0 for a verdict that does not loop; or 100 plus the number of a
+// refusal, with nothing changed.
+#[no_mangle]
+pub extern "C" fn entryreader_opening(
+    sheet: &[u8],
+    input: &[u8],
+    table: &mut [u32],
+    work: &mut [u32],
+    answer: &mut [u32; 2],
+) -> u32
+    ensures { λ r. ⌜ OpeningNumbers (now (sheet .entry)) (now (input .entry)) (now (table .entry)) (now (table .exit)) (now (work .entry)) (now (work .exit)) (now (answer .entry)) (now (answer .exit)) r ⌝ }
+{
+    let found = opening::opening(sheet, input, table, work);
+    report_opening(found, answer)
 }

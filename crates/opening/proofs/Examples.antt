@@ -1,0 +1,139 @@
+-- Two sheets and entries, of any result that meets the contract: the outcomes of the openings are computed. Assumes nothing.
+use mathlib.Core.Bool.{true, false, true≢false}
+use mathlib.Core.List.{List, [], _∷_}
+use mathlib.Core.Logic.{_≢_}
+use mathlib.Core.Option.{some}
+use mathlib.Core.Path.{_≡_, refl, subst}
+use Prim.Native.Nat.{ℕ, zero, suc, _*_, _≤_, _<_}
+use native.Mathlib.Decide.{ℕ-discrete}
+use native.Mathlib.Omega.{arith}
+use lib.Dec.{ltb}
+use lib.ListN.{length, take}
+use borrow.Author.Tests.{le-ltb}
+use Rattle.calls.proofs.Count.{sum}
+use Rattle.calls.proofs.Numbered.{numbered}
+use Rattle.calls.proofs.Table.{put, fresh, count-fresh}
+use Rattle.calls.proofs.Walk.{walk, ask}
+use Rattle.columns.specs.Column.{leading, column, row, digitsAfter, number, field, fields}
+use Rattle.grammar.specs.Refusal.{accepted, checked}
+use Rattle.grammar.specs.Rule.{ruleOf}
+use Rattle.grammar.specs.Sheet.{grammarOf, sheet, lineAt, ruleWithin, openLine, notLines, headerOut, variableOut, condition, ruleOrder, sheetOrder}
+use Rattle.grammar.specs.Printing.{text}
+use Rattle.schema.specs.Cases.{header}
+use Rattle.schema.specs.Derivation.{Pair, _at_, end, Outcome, stopped, loop, actOf, Has, Loops}
+use Rattle.schema.specs.Handed.{handed, verdictOf}
+use Rattle.schema.specs.Table.{cells}
+use Rattle.schema.specs.Verdict.{closedBy}
+use Rattle.schema.proofs.Laws.{has-one}
+use Rattle.schema.proofs.SheetClosed.{sheet-closed, start-within}
+use Rattle.schema.proofs.System.{gts}
+use Rattle.schema.proofs.Tested.{verdict-by}
+use Rattle.schema.proofs.Walk.{walked, outcomeIn, walk-has}
+use Rattle.opening.specs.Opening.{told, OpeningPromise}
+use Rattle.opening.specs.declared.Prefix.{Prefix}
+use Rattle.opening.proofs.Promised.{least-exactly}
+
+module _ (s : List ℕ) (reads : sheet s ≡ accepted (grammarOf s)) where
+  abbrev start : Pair
+  start = grammarOf s .start at 0
+
+  -- The outcome that is computed.
+  abbrev outcomeOn : List ℕ → Outcome
+  outcomeOn input = outcomeIn (walked (grammarOf s .rule) input (grammarOf s .variables) (grammarOf s .start at 0))
+
+  has : (input : List ℕ) (o : Outcome) → outcomeOn input ≡ o → Has (grammarOf s .rule) input start o
+  has input o e =
+      subst (Has (grammarOf s .rule) input start) e
+      (walk-has (grammarOf s .rule) input (grammarOf s .variables) (sheet-closed s (grammarOf s) reads) start (start-within s (grammarOf s) reads))
+
+  not-loop : (input : List ℕ) (o : Outcome) → outcomeOn input ≡ o → o ≢ loop → Loops (grammarOf s .rule) input start → ⊥
+  not-loop input o e d h = d (has-one (grammarOf s .rule) input start o loop (has input o e) h)
+
+  -- Accepted with slices that are long enough.
+  accepted-with : (input : List ℕ) (table work : ℕ) → ltb 4096 (length input) ≡ false → closedBy (grammarOf s .endmarker) input ≡ true
+      → 2 * cells (grammarOf s .variables) (length input) ≤ table → cells (grammarOf s .variables) (length input) ≤ work
+      → handed s (verdictOf input table work) ≡ accepted (grammarOf s)
+  accepted-with input table work short closed t w =
+      verdict-by s input (grammarOf s) table work false true false reads short closed (rw (le-ltb table _ t, le-ltb work _ w))
+
+-- ---- Case g, with the endmarker for an entry: "Rule 1 = 1(1,1)".
+
+abbrev sheetG : List ℕ
+sheetG = text (header 1 ∷ (1 ∷ 4 ∷ 1 ∷ 1 ∷ 1 ∷ []) ∷ [])
+
+reads-g : sheet sheetG ≡ accepted (grammarOf sheetG)
+unfolding text leading column row digitsAfter number field fields lineAt openLine notLines headerOut variableOut condition ruleOrder sheetOrder ruleOf ruleWithin checked sheet
+reads-g = refl
+
+outcomes-g : (outcomeOn sheetG reads-g [] ≡ loop) × (outcomeOn sheetG reads-g (46 ∷ []) ≡ loop)
+unfolding text leading column row digitsAfter number field fields lineAt ruleOf ruleWithin actOf gts numbered sum put fresh count-fresh ℕ-discrete walk ask walked
+outcomes-g = (refl, refl)
+
+cells-g : cells (grammarOf sheetG .variables) 1 ≡ 2
+unfolding text leading column row digitsAfter number field fields lineAt
+cells-g = refl
+
+closed-g : closedBy (grammarOf sheetG .endmarker) (46 ∷ []) ≡ true
+unfolding text leading column row digitsAfter number field fields lineAt closedBy
+closed-g = refl
+
+-- The empty opening loops.
+pub case-g : (table table′ work work′ : List ℕ) (r : Prefix) → 4 ≤ length table → 2 ≤ length work
+    → OpeningPromise (text (header 1 ∷ (1 ∷ 4 ∷ 1 ∷ 1 ∷ 1 ∷ []) ∷ [])) (46 ∷ []) table table′ work work′ r → told r ≡ accepted (some 0)
+case-g table table′ work work′ r t w promise =
+    least-exactly sheetG (46 ∷ []) table work table′ work′ r promise (grammarOf sheetG)
+    (accepted-with sheetG reads-g (46 ∷ []) (length table) (length work) refl closed-g (rw cells-g t) (rw cells-g w)) 0 .1 (
+      has sheetG reads-g (46 ∷ []) loop (outcomes-g .1),
+      record { inside = omega arith; loops = has sheetG reads-g [] loop (outcomes-g .0); none-shorter = λ j l. absurd (omega arith) },
+    )
+
+-- ---- A loop behind a byte: 1 = 2(1,3), 2 = `6`, 3 = 4(5,6), 4 = `-`, 5 = 5(5,5), 6 fails; the entry is `66-.`.
+
+abbrev sheetB : List ℕ
+sheetB =
+    text (header 6 ∷ (1 ∷ 4 ∷ 2 ∷ 1 ∷ 3 ∷ []) ∷ (2 ∷ 2 ∷ 54 ∷ 0 ∷ 0 ∷ []) ∷ (3 ∷ 4 ∷ 4 ∷ 5 ∷ 6 ∷ []) ∷ (4 ∷ 2 ∷ 45 ∷ 0 ∷ 0 ∷ []) ∷ (5 ∷ 4 ∷ 5 ∷ 5 ∷ 5 ∷ []) ∷ (6 ∷ 1 ∷ 0 ∷ 0 ∷ 0 ∷ []) ∷ [])
+
+abbrev entryB : List ℕ
+entryB = 54 ∷ 54 ∷ 45 ∷ 46 ∷ []
+
+reads-b : sheet sheetB ≡ accepted (grammarOf sheetB)
+unfolding text leading column row digitsAfter number field fields lineAt openLine notLines headerOut variableOut condition ruleOrder sheetOrder ruleOf ruleWithin checked sheet
+reads-b = refl
+
+record Outcomes : Type 0 where
+  none : outcomeOn sheetB reads-b [] ≡ stopped end
+  one : outcomeOn sheetB reads-b (54 ∷ []) ≡ stopped end
+  two : outcomeOn sheetB reads-b (54 ∷ 54 ∷ []) ≡ stopped end
+  three : outcomeOn sheetB reads-b (54 ∷ 54 ∷ 45 ∷ []) ≡ loop
+  whole : outcomeOn sheetB reads-b entryB ≡ loop
+
+outcomes-b : Outcomes
+unfolding text leading column row digitsAfter number field fields lineAt ruleOf ruleWithin actOf gts numbered sum put fresh count-fresh ℕ-discrete walk ask walked
+outcomes-b = record { none = refl; one = refl; two = refl; three = refl; whole = refl }
+
+cells-b : cells (grammarOf sheetB .variables) 4 ≡ 30
+unfolding text leading column row digitsAfter number field fields lineAt
+cells-b = refl
+
+closed-b : closedBy (grammarOf sheetB .endmarker) entryB ≡ true
+unfolding text leading column row digitsAfter number field fields lineAt closedBy
+closed-b = refl
+
+end-apart : stopped end ≢ loop
+end-apart e = true≢false (cc)
+
+none-shorter-b : (j : ℕ) → j < 3 → Loops (grammarOf sheetB .rule) (take j entryB) (start sheetB reads-b) → ⊥
+none-shorter-b zero l = not-loop sheetB reads-b [] (stopped end) (outcomes-b .none) end-apart
+none-shorter-b (suc zero) l = not-loop sheetB reads-b (54 ∷ []) (stopped end) (outcomes-b .one) end-apart
+none-shorter-b (suc (suc zero)) l = not-loop sheetB reads-b (54 ∷ 54 ∷ []) (stopped end) (outcomes-b .two) end-apart
+none-shorter-b (suc (suc (suc j))) l = absurd (omega arith)
+
+-- The three bytes that lead to the loop.
+pub case-behind : (table table′ work work′ : List ℕ) (r : Prefix) → 60 ≤ length table → 30 ≤ length work
+    → OpeningPromise sheetB entryB table table′ work work′ r → told r ≡ accepted (some 3)
+case-behind table table′ work work′ r t w promise =
+    least-exactly sheetB entryB table work table′ work′ r promise (grammarOf sheetB)
+    (accepted-with sheetB reads-b entryB (length table) (length work) refl closed-b (rw cells-b t) (rw cells-b w)) 3 .1 (
+      has sheetB reads-b entryB loop (outcomes-b .whole),
+      record { inside = omega arith; loops = has sheetB reads-b (54 ∷ 54 ∷ 45 ∷ []) loop (outcomes-b .three); none-shorter = none-shorter-b },
+    )
