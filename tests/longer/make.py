@@ -5,14 +5,15 @@
 
 READER is an implementation of documents 01 and 02 in Python, reader.py, made apart from this repository. RANGES are the classes of the
 bytes, or a file with them, as 48-57:1,9:4 and so on; a byte in none has class 0. The default is document 01's with document 02's order 5, and
-reader.py's own classes must agree with it; all else is as of order 6. lua5.4 and lua-lpeg are installed from Debian where they are absent. It
+reader.py's own classes must agree with it; all else is as of order 7. lua5.4 and lua-lpeg are installed from Debian where they are absent. It
 is run by hand; a second run writes the same bytes.
 
 What comes from where:
   LPeg (judge.lua)  outcome and end of each question whose rules LPeg takes, and the named pair of missing and end. It refuses rules
                     that may be left recursive. Each match is a process of its own with a limit of time, which ends this script.
   reader.py         loops; outcome and end where LPeg refuses the rules or would take too many calls; counts, tables, refusals,
-                    the machine's runs, readings and what the checker says of them; corrections (corrections.py).
+                    the machine's runs, readings and what the checker says of them; corrections (corrections.py); openings
+                    (openings.py), with a direct evaluation beside it.
 Where both judge they must agree, or this script ends with an error. k and h, from which the machine's budgets and rooms are chosen, are
 computed by the definition. Nothing comes from the program under test. The layout of the files is described in
 crates/test_questions/src/main.rt.
@@ -29,6 +30,7 @@ HERE = os.path.dirname(os.path.abspath(__file__))
 sys.path.append(os.path.join(HERE, ".."))
 
 import corrections
+import openings
 import questions
 from making import Store, install, line, load_reference, stop
 from questions import cells_due
@@ -37,7 +39,7 @@ CRATE = os.path.join(HERE, "..", "..", "crates", "test_questions")
 
 CLASSES = ("48-57:1,65-90:2,97-122:3,9:4,32:4,33-47:5,58-64:5,91-96:5,123-126:5,"
            "192-214:2,216-222:2,223-246:3,248-255:3,160:4,161-191:5,215:5,247:5,128-159:6")
-ORDER = 6               # reader.py answers as of this order of document 02
+ORDER = 7               # reader.py answers as of this order of document 02
 NO_REACH = 4            # as of this one only cells above the corrected byte stay
 
 FILE_BYTES = 262144     # the program's buffers
@@ -46,10 +48,10 @@ NUMBERS = questions.NUMBERS     # of the program's table, and of its work slice,
 UNTOUCHED_NUMBER, UNTOUCHED_BYTE = 77777, 42
 MODULUS = 9999991
 
-QUESTION, MACHINE, READING, DAMAGE, KEPT, CORRECTION, PUT = 0, 1, 2, 3, 4, 5, 6     # tasks of a request
-WRITER, CHECKER, END, CORRECTED, BEFORE = 2, 3, 5, 6, 7                            # kinds of answers beside the tasks
+QUESTION, MACHINE, READING, DAMAGE, KEPT, CORRECTION, PUT, OPENING = 0, 1, 2, 3, 4, 5, 6, 7     # tasks of a request
+WRITER, CHECKER, END, CORRECTED, BEFORE, OPENED = 2, 3, 5, 6, 7, 8                              # kinds of answers beside the tasks
 CODES = {"success": 0, "failure": 1, "loop": 2, "missing": 3, "end": 4, "spent": 6, "no frame": 7}
-REFUSED = 9
+NO_OPENING, REFUSED = 8, 9
 
 LPEG_CALLS = 3000000    # LPeg is asked where it takes at most so many calls
 LPEG_SECONDS = 120
@@ -125,6 +127,17 @@ class Reference:
     def question(self, q):
         table = [UNTOUCHED_NUMBER] * q.x
         return self.module.question(q.sheet, q.entry, q.variable, q.place, table, [0] * q.y, ORDER), table
+
+    def verdict(self, q):
+        table = [UNTOUCHED_NUMBER] * q.x
+        return self.module.verdict(q.sheet, q.entry, table, [0] * q.y, ORDER), table
+
+    def opening(self, q, left):
+        """The least opening that loops, None, or a refusal. The table ends as the verdict left it."""
+        table = [UNTOUCHED_NUMBER] * q.x
+        found = self.module.loop_opening(q.sheet, q.entry, table, [0] * q.y, ORDER)
+        if table != left: stop(f"an opening leaves another table than the verdict: {q}")
+        return found
 
     def correct(self, q, c, table):
         """A correction at c over a table, with as many numbers of work slice as the program lends."""
@@ -354,6 +367,20 @@ class Maker:
         table[at] = x
 
 
+    # Openings.
+
+    def opening(self, q):
+        """Asks for the opening that already loops; the verdict, and the opening."""
+        verdict, table = self.reference.verdict(q)
+        found = self.reference.opening(q, table)
+        number = self.files.request(q, OPENING, q.x, q.y)
+        if self.reference.refused(found): four = REFUSED, found.number, found.line, summed([UNTOUCHED_NUMBER] * q.y)
+        elif found is None: four = NO_OPENING, 0, 0, 0
+        else: four = CODES["loop"], 0, found, 0
+        self.files.answer(number, OPENED, *four, summed(table))
+        return verdict, found
+
+
 # ---------------------------------------------------------------- choices
 
 def spread(items, count):
@@ -395,7 +422,8 @@ def summary(maker, sizes, ranges):
            f"Bytes of sheets.txt, entries, questions.txt: {sizes[0]}, {sizes[1]}, {sizes[2]}.", ""]
     for kind in ("kind", "outcome", "source", "outcome and judge", "entry", "byte from 128", "tasks", "machine", "damaged readings", "chains",
                  "corrections", "correction judge", "corrected byte", "asked place", "retained, reached", "by reach, reached", "reach",
-                 "near the end", "refused with 19", "puts"):
+                 "near the end", "refused with 19", "puts", "openings", "opening kind", "opening's entry", "least opening", "m, named place",
+                 "opening judge"):
         for (k, name), count in sorted(maker.tally.items()):
             if k == kind: out.append(f"{kind:17} {count:6}  {name}")
         out.append("")
@@ -409,6 +437,9 @@ its group. Judged by LPeg: outcome, end and the pair of missing and end are LPeg
 table's sum, over outcomes and reaches, are always reader.py's, and so are all answers of the machine, the writer and the checker.
 Corrections have no lines here; their answers are reader.py's, and LPeg agrees on outcome, end and the pair of missing and end where it is
 named as their judge. Of the corrections near the end, the cells without the reach are those that reader.py decides newly as of order 4.
+Openings have no lines either. Least openings, which LPeg cannot judge, are reader.py's; a direct evaluation in openings.py agrees, of the
+whole entry, of the least opening and of the one that is a byte shorter. Where there is none LPeg agrees on the verdict's outcome and end,
+if it is named as the judge.
 
 """
 
@@ -448,11 +479,13 @@ def make(options):
             if outcome == "refused": maker.run(q, 1000, NUMBERS)
         run_readings(maker, asked)
         corrections.run(maker, asked)
+        openings.run(maker, asked, classes)
     text = summary(maker, maker.files.write(), ranges)
     write_sources(maker, text)
     print(text)
     check_numbers(maker)
     corrections.check_numbers(maker.tally)
+    openings.check_numbers(maker.tally)
 
 
 def main():

@@ -15,6 +15,7 @@
 //     task 5, correction  the byte at x of the kept entry is made y modulo 256, and the question is asked as a correction at x; y / 256
 //                         numbers of the kept table and a work slice are lent
 //     task 6, put         the number at x of the kept table is made y; nothing is asked
+//     task 7, opening     as task 0, but for the opening that already loops, at the start variable and place 0
 //
 // A cell is two numbers of a table and one of a work slice: with tasks 2 and 5 the work slice has half as many numbers as the table, rounded
 // up. What is kept lasts until the next task 4, so that corrections follow one another. A correction takes as many bytes of the kept entry as
@@ -30,9 +31,11 @@
 //     5, end         the number of bytes read of sheets.txt, entries and questions.txt, and two zeros
 //     6, correction  as for a question; the count is of newly decided cells
 //     7, put         three zeros, the number that stood there before, and 0
+//     8, opening     code, refusal number, least opening or refused line, sum of the lent work slice if refused, sum of the lent table
 //
-// The codes: 0 success, 1 failure, 2 loop, 3 missing, 4 end, 6 spent, 7 no frame, 9 refused. Table and output are filled before each call
-// but a correction, so that their sums also show what a call must leave unchanged. A table's sum is over outcomes and reaches alike.
+// The codes: 0 success, 1 failure, 2 loop, 3 missing, 4 end, 6 spent, 7 no frame, 8 no opening, 9 refused. Table and output are filled
+// before each call but a correction, so that their sums also show what a call must leave unchanged. A table's sum is over outcomes and
+// reaches alike.
 ghost use Prim.Native.Nat.{_<_, _≤_};
 ghost use Rattle.io.specs.Counts.{Counts};
 use backtrack::Ending;
@@ -41,6 +44,7 @@ use columns::Cursor;
 use columns::Field;
 use finish::Answer;
 use libc::STDOUT_FILENO;
+use opening::Prefix;
 use rows::write_field;
 
 // What stands in a table and in an output before a call.
@@ -163,6 +167,15 @@ fn numbers_of_claim(claim: Claim, lines: u32) -> Four {
     }
 }
 
+// The sum is of a work slice, and stands where the slice must be as it was.
+fn numbers_of_prefix(prefix: Prefix, sum: u32) -> Four {
+    match prefix {
+        Prefix::Least(m) => Four(2, 0, m, 0),
+        Prefix::None => Four(8, 0, 0, 0),
+        Prefix::Refused(number, line) => Four(9, number, line, sum),
+    }
+}
+
 // How many cells have so many numbers of a table, rounded up.
 fn cells_of(numbers: usize) -> usize {
     numbers - numbers / 2
@@ -173,7 +186,7 @@ fn low_digits(x: usize) -> u32 {
     (x % 100000000) as u32
 }
 
-// Task 0, with the lent slices.
+// Tasks 0 and 4, with the lent slices.
 fn question(
     number: u32,
     sheet: &[u8],
@@ -187,7 +200,24 @@ fn question(
     print_answer(number, 0, numbers_of_answer(answer), sum_of_numbers(table));
 }
 
-// Task 0.
+// Task 7, with the lent slices.
+fn find_opening(number: u32, sheet: &[u8], entry: &[u8], table: &mut [u32], work: &mut [u32]) {
+    fill_numbers(table);
+    let prefix = opening::opening(sheet, entry, table, work);
+    let four = numbers_of_prefix(prefix, sum_of_numbers(work));
+    print_answer(number, 8, four, sum_of_numbers(table));
+}
+
+// Tasks 0, 4 and 7, with the lent slices.
+fn ask(number: u32, sheet: &[u8], entry: &[u8], r: Request, table: &mut [u32], work: &mut [u32]) {
+    let task = r.task;
+    match task {
+        7 => find_opening(number, sheet, entry, table, work),
+        _ => question(number, sheet, entry, r, table, work),
+    }
+}
+
+// Tasks 0, 4 and 7.
 fn run_question(
     number: u32,
     sheet: &[u8],
@@ -204,7 +234,7 @@ fn run_question(
     if work.len() < y {
         return print_fault(number);
     }
-    question(number, sheet, entry, r, &mut table[0..x], &mut work[0..y]);
+    ask(number, sheet, entry, r, &mut table[0..x], &mut work[0..y]);
 }
 
 // Task 1.
@@ -417,12 +447,13 @@ fn run_written(
     }
 }
 
-// Tasks 0, 2 and 3, with a table of 32,768 cells.
+// Tasks 0, 2, 3 and 7, with a table of 32,768 cells.
 fn run_fresh(number: u32, sheet: &[u8], entry: &[u8], r: Request, work: &mut [u32]) {
     let mut table = [0u32; 65536];
     let task = r.task;
     match task {
         0 => run_question(number, sheet, entry, r, &mut table, work),
+        7 => run_question(number, sheet, entry, r, &mut table, work),
         _ => run_written(number, sheet, entry, r, &mut table, work),
     }
 }
