@@ -49,6 +49,18 @@ uint32_t entryreader_judge(
     uint32_t (*answer)[4]);
 
 /*
+ * The opening of an entry that already loops: the least m such that the entry's first m bytes loop too, asked about the start variable at 0. Returns 0,
+ * with 1 and m in the answer where the verdict is loop, and 0 and 0 where it is any other; or a refusal (1 to 7, 10). Table and work slice are as long as
+ * for entryreader_judge, and afterwards the table is the one that it leaves.
+ */
+uint32_t entryreader_opening(
+    const uint8_t *sheet, size_t sheet_length,
+    const uint8_t *input, size_t input_length,
+    uint32_t *table, size_t table_length,
+    uint32_t *work, size_t work_length,
+    uint32_t (*answer)[2]);
+
+/*
  * The outcome of a variable (1 to V) at a position (0 to n), over a lent table of twice V times (n + 1) numbers or more and a lent work slice of V
  * times (n + 1) or more. Returns 0, with the outcome's code, the named variable and position (or 0 and 0) and the count of decided cells in the answer;
  * or a refusal (1 to 6, 8 to 10). A cell of the table is two numbers side by side, outcome then reach; that of variable A at p is number (A - 1) times

@@ -120,7 +120,7 @@ pub enum Verdict {
         /// Decided cells.
         cells: u32,
     },
-    /// No finite derivation gives any other outcome.
+    /// No finite derivation gives any other outcome. [`Reader::opening`](crate::Reader::opening) says how many first bytes are enough for it.
     Loop {
         /// The first pair met a second time.
         named: Pair,

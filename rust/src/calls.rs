@@ -28,6 +28,18 @@ unsafe extern "C" {
         answer: *mut [u32; 4],
     ) -> u32;
 
+    fn entryreader_opening(
+        sheet: *const u8,
+        sheet_length: usize,
+        input: *const u8,
+        input_length: usize,
+        table: *mut u32,
+        table_length: usize,
+        work: *mut u32,
+        work_length: usize,
+        answer: *mut [u32; 2],
+    ) -> u32;
+
     fn entryreader_question(
         sheet: *const u8,
         sheet_length: usize,
@@ -117,6 +129,30 @@ pub fn judge(
     // SAFETY: the call has no precondition; it reads the first two slices, and writes inside the three that are lent exclusively.
     unsafe {
         entryreader_judge(
+            sheet.as_ptr(),
+            sheet.len(),
+            entry.as_ptr(),
+            entry.len(),
+            table.as_mut_ptr(),
+            table.len(),
+            work.as_mut_ptr(),
+            work.len(),
+            answer,
+        )
+    }
+}
+
+/// 0 with 1 and the least number of bytes, or 0 and 0, in `answer`; or 100 plus the number of a refusal.
+pub fn opening(
+    sheet: &[u8],
+    entry: &[u8],
+    table: &mut [u32],
+    work: &mut [u32],
+    answer: &mut [u32; 2],
+) -> u32 {
+    // SAFETY: the call has no precondition; it reads the first two slices, and writes inside the three that are lent exclusively.
+    unsafe {
+        entryreader_opening(
             sheet.as_ptr(),
             sheet.len(),
             entry.as_ptr(),

@@ -99,6 +99,39 @@ pub fn judge(
     Verdict::from_numbers(answer)
 }
 
+/// The opening of an entry that already loops: where the verdict is loop, the least number of the entry's first bytes on which the start variable at 0
+/// loops too; none for any other verdict. Table and work slice are lent as to [`judge`], which refuses the same and leaves the same table.
+///
+/// ```
+/// use entryreader::lent::opening;
+///
+/// // Any number of `6`, then `-` and a loop.
+/// let sheet = b"    6    1   46    0    0
+///     1    4    2    1    3
+///     2    2   54    0    0
+///     3    4    4    5    6
+///     4    2   45    0    0
+///     5    4    5    5    5
+///     6    1    0    0    0
+/// ";
+/// let (mut table, mut work) = ([0; 60], [0; 30]);
+/// assert_eq!(opening(sheet, b"66-.", &mut table, &mut work)?, Some(3));
+/// assert_eq!(opening(sheet, b"66x.", &mut table, &mut work)?, None);
+/// # Ok::<(), entryreader::Error>(())
+/// ```
+pub fn opening(
+    sheet: &[u8],
+    entry: &[u8],
+    table: &mut [u32],
+    work: &mut [u32],
+) -> Result<Option<usize>, Error> {
+    let mut answer = [0; 2];
+    match calls::opening(sheet, entry, table, work, &mut answer) {
+        0 => Ok((answer[0] == 1).then(|| calls::length(answer[1]))),
+        code => Err(Error::from_code(code)),
+    }
+}
+
 /// The outcome of a variable at a position of an entry, over a lent table of twice V times (n + 1) numbers or more and a lent work slice of V times
 /// (n + 1) or more.
 ///

@@ -18,8 +18,8 @@
 //! ```
 //!
 //! A sheet has at most 256 variables, an entry at most 4,096 bytes, in ISO 8859-1 where a rule asks for a class of letters. An entry ends with the
-//! sheet's endmarker, which stands nowhere else in it; only [`Reader::verdict`] asks for that. Everything else is refused: [`Error`] says why, and at
-//! which line of the sheet.
+//! sheet's endmarker, which stands nowhere else in it; only [`Reader::verdict`] and [`Reader::opening`] ask for that. Everything else is refused:
+//! [`Error`] says why, and at which line of the sheet.
 #![warn(missing_docs)]
 #![warn(
     clippy::cast_possible_truncation,

@@ -107,6 +107,27 @@ impl Reader {
         Ok(verdict)
     }
 
+    /// The opening of an entry that already loops: where the [`verdict`](Reader::verdict) is loop, the least number of the entry's first bytes on which
+    /// the start variable at 0 loops too; none for any other verdict. The openings need not end with the endmarker. Refusals, and the entry and the
+    /// table that are kept, are the verdict's.
+    ///
+    /// ```
+    /// use entryreader::Reader;
+    ///
+    /// // Any number of `6`, then `-` and a loop.
+    /// let mut reader = Reader::from_shorthand(b"S='6'S/'-'L\nL=L\n")?;
+    /// assert_eq!(reader.opening(b"66-6-666.")?, Some(3));
+    /// assert_eq!(reader.opening(b"666.")?, None);
+    /// assert_eq!(reader.opening(b"66-").unwrap_err().number(), 7);
+    /// # Ok::<(), entryreader::Error>(())
+    /// ```
+    pub fn opening(&mut self, entry: &[u8]) -> Result<Option<usize>, Error> {
+        self.make_room(entry);
+        let least = lent::opening(&self.sheet, entry, &mut self.table, &mut self.work)?;
+        entry.clone_into(&mut self.entry);
+        Ok(least)
+    }
+
     /// The answer about a variable at a position of an entry, which need not end with the endmarker.
     ///
     /// ```

@@ -23,7 +23,7 @@ pub enum Refusal {
     Rule,
     /// 6: the entry has over 4,096 bytes.
     LongEntry,
-    /// 7, of a verdict only: the endmarker is not the entry's last byte, or stands earlier too.
+    /// 7, of a verdict and its opening only: the endmarker is not the entry's last byte, or stands earlier too.
     Endmarker,
     /// 8: the variable asked for is not in 1 to V.
     Variable,

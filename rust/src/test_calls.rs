@@ -42,6 +42,21 @@ pub use crate::calls::sheet;
 /// ```
 pub use crate::calls::judge;
 
+/// The opening that already loops: 1 and its length, or 0 and 0:
+///
+/// ```
+/// use entryreader::test_calls::opening;
+///
+/// // 1 calls itself before it has taken a byte.
+/// let sheet = b"    1    1   46    0    0\n    1    4    1    1    1\n";
+/// let (mut table, mut work, mut answer) = ([0; 4], [0; 2], [7; 2]);
+/// assert_eq!(opening(sheet, b"", &mut table, &mut work, &mut answer), 107);
+/// assert_eq!(answer, [7, 7]);
+/// assert_eq!(opening(sheet, b".", &mut table, &mut work, &mut answer), 0);
+/// assert_eq!(answer, [1, 0]);
+/// ```
+pub use crate::calls::opening;
+
 /// The question, with the outcome's code, the named variable, the named position and the count of decided cells:
 ///
 /// ```

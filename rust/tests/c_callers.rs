@@ -4,7 +4,7 @@
 mod marked_cases;
 
 use entryreader::{Answer, Claim, Error, Pair, Verdict, lent};
-use marked_cases::{CELLS, H, READING};
+use marked_cases::{BEHIND, CELLS, G, H, READING};
 use std::collections::BTreeMap;
 use std::fmt::Write as _;
 use std::io::Write as _;
@@ -17,21 +17,72 @@ type Handed = (&'static [u8], &'static [u8]);
 /// A call's answer; or 100 plus the number of a refusal.
 type Returned<T> = Result<T, u32>;
 
-/// The marked entries, then a refused sheet and a refused entry; each with the question's numbers, and the verdict's code.
-fn cases() -> Vec<(Handed, Returned<[u32; 4]>, Returned<u32>)> {
-    let mut cases: Vec<_> = marked_cases::cases()
+/// What is handed over, with the question's numbers, the verdict's code and the opening's numbers.
+struct Case {
+    handed: Handed,
+    question: Returned<[u32; 4]>,
+    verdict: Returned<u32>,
+    opening: Returned<[u32; 2]>,
+}
+
+impl Case {
+    /// What is printed of verdict, opening and question.
+    fn lines(&self) -> String {
+        let mut lines = String::new();
+        let code = self.verdict.unwrap_or_else(|code| code);
+        report(&mut lines, "verdict", code, &[]);
+        let code = self.opening.err().unwrap_or(0);
+        report(&mut lines, "opening", code, &self.opening.unwrap_or([7; 2]));
+        let code = self.question.err().unwrap_or(0);
+        report(
+            &mut lines,
+            "question",
+            code,
+            &self.question.unwrap_or([7; 4]),
+        );
+        lines
+    }
+}
+
+/// What is refused by every call.
+fn refused(handed: Handed, code: u32) -> Case {
+    Case {
+        handed,
+        question: Err(code),
+        verdict: Err(code),
+        opening: Err(code),
+    }
+}
+
+/// The verdict loops, and so do the first bytes, so many of them.
+fn looping(sheet: &'static str, entry: &'static str, question: [u32; 4], least: u32) -> Case {
+    Case {
+        handed: (sheet.as_bytes(), entry.as_bytes()),
+        question: Ok(question),
+        verdict: Ok(2),
+        opening: Ok([1, least]),
+    }
+}
+
+/// The marked entries, of which no verdict loops; then a refused sheet and a refused entry; then case g with an endmarker, and a loop behind `66-`.
+fn cases() -> Vec<Case> {
+    let mut cases: Vec<Case> = marked_cases::cases()
         .map(|case| {
             let verdict = case.verdict.map(|code| code.number());
-            (
-                (case.sheet.as_bytes(), case.entry.as_bytes()),
-                Ok(answer_numbers(case.answer)),
-                verdict.map_err(|refusal| 100 + refusal.number()),
-            )
+            let verdict = verdict.map_err(|refusal| 100 + refusal.number());
+            Case {
+                handed: (case.sheet.as_bytes(), case.entry.as_bytes()),
+                question: Ok(answer_numbers(case.answer)),
+                verdict,
+                opening: verdict.map(|_| [0, 0]),
+            }
         })
         .into();
     let h = H.as_bytes();
-    cases.push(((&h[..h.len() - 1], b"-6."), Err(101), Err(101)));
-    cases.push(((h, &[b'6'; 4097]), Err(106), Err(106)));
+    cases.push(refused((&h[..h.len() - 1], b"-6."), 101));
+    cases.push(refused((h, &[b'6'; 4097]), 106));
+    cases.push(looping(G, ".", [2, 1, 0, 1], 0));
+    cases.push(looping(BEHIND, "66-.", [2, 5, 3, 9], 3));
     cases
 }
 
@@ -190,6 +241,17 @@ impl Printed {
         self.table();
     }
 
+    fn opening(&mut self, sheet: &[u8], entry: &[u8]) {
+        self.fill();
+        let least = lent::opening(sheet, entry, &mut self.table, &mut self.work);
+        let (code, numbers) = returned(least.map(|least| match least {
+            Some(least) => [1, u32::try_from(least).expect("it is short")],
+            None => [0, 0],
+        }));
+        report(&mut self.text, "opening", code, &numbers);
+        self.table();
+    }
+
     fn questions(&mut self, sheet: &[u8], entry: &[u8]) {
         self.fill();
         let found = lent::question(sheet, entry, 1, 0, &mut self.table, &mut self.work);
@@ -227,6 +289,7 @@ impl Printed {
         let sheet = self.shorthand(sheet);
         self.sheet(&sheet);
         self.verdicts(&sheet, entry);
+        self.opening(&sheet, entry);
         self.questions(&sheet, entry);
         self.reading(&sheet, entry);
     }
@@ -235,7 +298,7 @@ impl Printed {
 #[test]
 fn marked_entries_in_c() {
     let cases = cases();
-    let mut handed: Vec<Handed> = cases.iter().map(|(handed, _, _)| *handed).collect();
+    let mut handed: Vec<Handed> = cases.iter().map(|case| case.handed).collect();
     handed.push(TEXT);
     let text = printed_by_c(&handed);
     let mut expected = Printed::new();
@@ -243,21 +306,17 @@ fn marked_entries_in_c() {
     assert_eq!(text, expected.text);
 
     // The numbers that document 01 gives; how many cells a text's sheet decides is free.
-    let mut lines = String::new();
-    for (_, question, verdict) in cases {
-        let code = verdict.unwrap_or_else(|code| code);
-        report(&mut lines, "verdict", code, &[]);
-        let code = question.err().unwrap_or(0);
-        report(&mut lines, "question", code, &question.unwrap_or([7; 4]));
-    }
-    let of_both = |line: &&str| line.starts_with("verdict") || line.starts_with("question");
-    let found: Vec<&str> = text.lines().filter(of_both).collect();
+    let lines: String = cases.iter().map(Case::lines).collect();
+    let names = ["verdict", "opening", "question"];
+    let of_these = |line: &&str| names.iter().any(|name| line.starts_with(name));
+    let found: Vec<&str> = text.lines().filter(of_these).collect();
     let lines: Vec<&str> = lines.lines().collect();
     assert_eq!(found[..lines.len()], lines);
     assert_eq!(found[lines.len()], "verdict 0:");
     let written = format!("write 0: 8 0 0 5 5\n{READING}check 0: 8 3\n");
     assert!(text.contains(&written), "{text}");
     assert!(text.contains(&cells_of_a()), "{text}");
+    assert!(text.contains(&cells_behind()), "{text}");
 }
 
 /// Case a asked, and corrected at 0 to what it is: two cells are decided anew, and the table is the same.
@@ -266,6 +325,25 @@ fn cells_of_a() -> String {
     let table = [&CELLS.concat()[..], &[7; 16]].concat();
     for (name, cells) in [("question", 5), ("correct", 2)] {
         report(&mut text, name, 0, &[8, 0, 0, cells]);
+        print(&mut text, "table", &table);
+    }
+    text
+}
+
+/// The verdict on `66-.` where a loop stands behind the `-`, and the opening: the same table.
+fn cells_behind() -> String {
+    let rows = [
+        [2, 0, 2, 0, 2, 0, 0, 0, 0, 0],
+        [6, 1, 7, 2, 1, 3, 0, 0, 0, 0],
+        [0, 0, 0, 0, 2, 0, 0, 0, 0, 0],
+        [0, 0, 0, 0, 8, 3, 0, 0, 0, 0],
+        [0, 0, 0, 0, 0, 0, 2, 0, 0, 0],
+        [0; 10],
+    ];
+    let table = [&rows.concat()[..], &[7; 4]].concat();
+    let mut text = String::new();
+    for (name, numbers) in [("judge", &[2, 5, 3, 9][..]), ("opening", &[1, 3])] {
+        report(&mut text, name, 0, numbers);
         print(&mut text, "table", &table);
     }
     text
@@ -374,7 +452,7 @@ fn declarations() {
         in_source,
         "header and source"
     );
-    assert_eq!(in_source.len(), 8, "{in_source:?}");
+    assert_eq!(in_source.len(), 9, "{in_source:?}");
     assert_eq!(in_source["entryreader_sheet"].len(), 4);
     assert_eq!(externs.matches(") -> u32;").count(), in_source.len());
     assert_eq!(header.matches(");\n").count(), in_source.len());

@@ -10,26 +10,11 @@ mod random;
 mod recognizer;
 
 use comparison::Comparison;
-use entryreader::Pair;
 use marked_cases::{H, I as RUN, J};
 use questions::{Case, row};
 use recognizer::with_deep_stack;
 use std::collections::BTreeSet;
 use std::io::Write;
-
-/// A question about variable 1.
-fn case(sheet: &str, entry: &[u8], position: u32) -> Case {
-    let variables: usize = sheet[..5].trim().parse().expect("line 1 has V");
-    Case {
-        sheet: sheet.as_bytes().to_vec(),
-        entry: entry.to_vec(),
-        asked: Pair {
-            variable: 1,
-            position,
-        },
-        cells: variables * (entry.len() + 1),
-    }
-}
 
 #[test]
 fn random_questions() {
@@ -59,7 +44,7 @@ fn classes_of_bytes() {
     for class in 1..=6 {
         let sheet = row([1, 1, 46, 0, 0]) + &row([1, 3, class, 0, 0]);
         for byte in 0..=255 {
-            comparison.all(&case(&sheet, &[byte, b'.'], 0));
+            comparison.all(&Case::new(&sheet, &[byte, b'.'], 0));
         }
     }
 }
@@ -117,12 +102,12 @@ const BRACKETS: &str = "    7    1   46    0    0
 /// Success, failure, end, loop and missing.
 fn few_cases() -> [Case; 6] {
     [
-        case(H, b"-6.", 0),
-        case(H, b"x", 0),
-        case(H, b"-6", 0),
-        case(RUN, b"aa.", 1),
-        case(LOOPING, b"a.", 0),
-        case(J, b"", 0),
+        Case::new(H, b"-6.", 0),
+        Case::new(H, b"x", 0),
+        Case::new(H, b"-6", 0),
+        Case::new(RUN, b"aa.", 1),
+        Case::new(LOOPING, b"a.", 0),
+        Case::new(J, b"", 0),
     ]
 }
 
@@ -140,6 +125,7 @@ fn lengths_of_table_work_and_output() {
             for work in around(case.cells) {
                 comparison.question(&case, table, work);
                 comparison.judge(&case, table, work);
+                drop(comparison.opening(&case, table, work));
                 for output in around(49 * case.cells) {
                     comparison.write(&case, table, work, output);
                 }
@@ -191,15 +177,15 @@ fn lengths_of_entry_and_sheet() {
     with_deep_stack(|| {
         let mut comparison = Comparison::new(6);
         for length in 4094..=4099 {
-            comparison.all(&case(RUN, &vec![b'a'; length], 0));
-            comparison.all(&case(H, &vec![b'a'; length], length as u32));
+            comparison.all(&Case::new(RUN, &vec![b'a'; length], 0));
+            comparison.all(&Case::new(H, &vec![b'a'; length], length as u32));
         }
         for lines in 255..=259 {
             let mut sheet = row([256, 1, 46, 0, 0]);
             for variable in 1..lines {
                 sheet += &row([variable, 4, (variable * 7) % 256 + 1, 256, 2]);
             }
-            comparison.all(&case(&sheet, b"a.", 0));
+            comparison.all(&Case::new(&sheet, b"a.", 0));
         }
     });
 }
@@ -215,8 +201,7 @@ fn long_entries() {
             let length = random.index(4100);
             let entry = questions::entry(random, length);
             let position = random.below(20) as u32;
-            let sheet = String::from_utf8(sheet).expect("a sheet is ASCII");
-            comparison.all(&case(&sheet, &entry, position));
+            comparison.all(&Case::new(&sheet, &entry, position));
         }
     });
 }
@@ -231,11 +216,11 @@ fn whole_entries() {
                 .map(|i| if i < n / 2 { b'(' } else { b')' })
                 .collect();
             for sheet in [RUN, LOOPING, BRACKETS] {
-                comparison.all(&case(sheet, &plain, 0));
-                comparison.all(&case(sheet, &nested, 0));
+                comparison.all(&Case::new(sheet, &plain, 0));
+                comparison.all(&Case::new(sheet, &nested, 0));
             }
             plain.extend(b".");
-            let case = case(RUN, &plain, 0);
+            let case = Case::new(RUN, &plain, 0);
             comparison.verdict(&case);
             comparison.judge(&case, 2 * case.cells, case.cells);
         }
@@ -254,7 +239,7 @@ fn greatest_table() {
         let wide = text.replace("  254    4  255  255  256", "  254    4  255    1  256");
         let mut comparison = Comparison::new(9);
         for sheet in [&text, &wide] {
-            let case = case(sheet, &[b'a'; 4096], 0);
+            let case = Case::new(sheet, &[b'a'; 4096], 0);
             let (cells, output) = (case.cells, 49 * case.cells);
             comparison.question(&case, 2 * cells, cells);
             comparison.question(&case, 2 * cells, cells - 1);

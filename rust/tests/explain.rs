@@ -7,6 +7,8 @@ mod arguments;
 mod damaged;
 #[path = "explain/drawings.rs"]
 mod drawings;
+#[path = "explain/openings.rs"]
+mod openings;
 #[path = "explain/program.rs"]
 mod program;
 #[path = "explain/questions.rs"]

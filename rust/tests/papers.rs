@@ -2,6 +2,7 @@
 //!
 //! Papers and programs are only held together here: the outputs in the papers were taken from the programs. That these are right is what `explain`,
 //! `register` and `reader` test, with texts written by hand.
+use entryreader::{Code, Reader};
 use std::path::{Path, PathBuf};
 use std::process::Command;
 
@@ -56,7 +57,7 @@ fn commands(paper: &str) -> Vec<(String, Vec<String>)> {
 #[test]
 fn commands_in_papers() {
     let all = [commands("SHEETS.md"), commands("CASES.md")].concat();
-    assert_eq!(all.len(), 23);
+    assert_eq!(all.len(), 24);
     for (command, shown) in all {
         // Two quotes are an empty entry.
         let words: Vec<&str> = command
@@ -117,6 +118,27 @@ fn import_in_papers() {
     let program = Path::new(env!("CARGO_BIN_EXE_explain")).with_file_name("examples/baptisms");
     let program = program.to_str().expect("a path of text");
     assert_eq!(found.expect("it is shown").1, printed(program, &[]));
+}
+
+/// The page that loops is recognised with the change that the paper proposes: one more variable, and a line that calls it.
+#[test]
+fn corrected_page() {
+    let file = |name| std::fs::read_to_string(docs().join("sheets").join(name));
+    let (sheet, page) = (file("remarks.txt"), file("page.txt"));
+    let (sheet, page) = (sheet.expect("it is there"), page.expect("it is there"));
+    assert_eq!((page.len(), page.matches('(').count()), (2_118, 12));
+    let verdict = |sheet: &str| {
+        let mut reader = Reader::new(sheet.as_bytes()).expect("it is accepted");
+        reader
+            .verdict(page.as_bytes())
+            .map(|verdict| verdict.code())
+    };
+    assert_eq!(verdict(&sheet), Ok(Code::Loop));
+    let changed = sheet
+        .replacen("   25    1", "   26    1", 1)
+        .replace("   16    4   20   12   12", "   16    4   20   26   26")
+        + "   26    4   19   12   25\n";
+    assert_eq!(verdict(&changed), Ok(Code::Recognised));
 }
 
 /// The drawing that is shown is the one that `explain` writes.

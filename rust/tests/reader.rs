@@ -3,6 +3,7 @@
 #[allow(dead_code)] // Other tests hand over tables that no call left.
 mod kept;
 mod marked_cases;
+mod met;
 #[allow(dead_code, unused_imports)] // Other tests lend slices around the limits.
 mod questions;
 mod random;
@@ -12,7 +13,8 @@ mod recognizer;
 
 use entryreader::{Answer, Claim, Error, Line, Pair, Reader, Refusal, Rule, Verdict, lent};
 use kept::Correction;
-use marked_cases::{CELLS, G, H, I, J, READING, THROUGH_SECOND, cases};
+use marked_cases::{BEHIND, CELLS, G, H, I, J, READING, THROUGH_SECOND, cases};
+use met::Met;
 use questions::row;
 use random::Random;
 use recognizer::{Question, with_deep_stack};
@@ -215,6 +217,7 @@ fn long_entries() {
             assert_eq!(error.to_string(), "the entry has over 4,096 bytes");
         };
         refused(reader.verdict(&entry).err());
+        refused(reader.opening(&entry).err());
         refused(reader.ask(&entry, 1, 0).err());
         refused(reader.reading(&entry).err());
         refused(reader.check(&entry, READING.as_bytes()).err());
@@ -337,6 +340,8 @@ fn corrected_after_each_call() {
     assert!(reader.verdict(b"-6.").is_ok());
     assert_eq!(reader.correct(1, b'7', 1, 0), success(3, 3));
     assert_eq!(reader.correct(1, b'8', 1, 0), success(3, 3));
+    assert!(reader.opening(b"-6.").is_ok());
+    assert_eq!(reader.correct(1, b'7', 1, 0), success(3, 3));
     assert!(reader.reading(b"-6.").is_ok());
     assert_eq!(reader.correct(1, b'7', 1, 0), success(3, 3));
     // Only the full stop was asked for: the other four cells are new.
@@ -350,6 +355,21 @@ fn corrected_after_each_call() {
     let refused = reader.correct(0, b'7', 6, 0);
     assert_eq!(refused.map_err(|error| error.number()), Err(18));
     assert_eq!((reader.entry(), reader.table().len()), (&b""[..], 2 * 6));
+}
+
+/// The loop behind `66-`: found, corrected away, and found in a longer entry; an entry that is refused is not kept.
+#[test]
+fn opening_then_corrected() {
+    let mut reader = reader(BEHIND);
+    assert_eq!(reader.opening(b"66-."), Ok(Some(3)));
+    assert_eq!(reader.entry(), b"66-.");
+    // 1 at 0, 1 and 2, and 2, 3, 4 and 6 at 2; the letters before it stay.
+    let corrected = reader.correct(2, b'x', 1, 0);
+    assert_eq!(corrected, Ok(Answer::Failure { cells: 3 + 4 }));
+    assert_eq!(reader.opening(b"66x."), Ok(None));
+    assert_eq!(reader.opening(b"666-666."), Ok(Some(4)));
+    let refused = reader.opening(b"66-").map_err(|error| error.number());
+    assert_eq!((refused, reader.entry()), (Err(7), &b"666-666."[..]));
 }
 
 /// The number that a correction is refused with.
@@ -402,6 +422,8 @@ fn refused_entries_between() {
     for (entry, of_verdict, of_question) in [(&short[..], 7, 8), (&longer, 7, 8), (&long, 6, 6)] {
         let verdict = reader.verdict(entry).map_err(|error| error.number());
         assert_eq!(verdict, Err(of_verdict));
+        let least = reader.opening(entry).map_err(|error| error.number());
+        assert_eq!(least, Err(of_verdict));
         let answer = reader.ask(entry, 7, 0).map_err(|error| error.number());
         assert_eq!(answer, Err(of_question));
         assert_eq!((reader.entry(), reader.table()), (&b"-6."[..], &table[..]));
@@ -473,6 +495,7 @@ fn refused_entries() {
     ] {
         let error = reader.verdict(entry).expect_err("it is refused");
         assert_eq!(told(error), (number, None, sentence.to_string()));
+        assert_eq!(reader.opening(entry), Err(error));
     }
 }
 
@@ -593,34 +616,6 @@ fn readings_without_a_line_at_fault() {
     ] {
         let reading = &READING.as_bytes()[..length];
         assert_eq!(check(&reader, b"-6.", reading), refused, "{length}");
-    }
-}
-
-/// How often each answer and each refusal was met.
-#[derive(Default)]
-struct Met(BTreeMap<String, u64>);
-
-impl Met {
-    fn count(&mut self, what: String) {
-        *self.0.entry(what).or_insert(0) += 1;
-    }
-
-    /// What a call found, by the name of its kind.
-    fn found<T>(&mut self, call: &str, found: &Result<T, Error>, kind: impl Fn(&T) -> String) {
-        let what = match found {
-            Ok(found) => kind(found),
-            Err(error) => format!("refused {}", error.number()),
-        };
-        self.count(format!("{call} {what}"));
-    }
-
-    /// Each of these was met more often than this, and nothing else was met.
-    fn assert_met(&self, expected: &[&str], often: u64) {
-        let met: Vec<&str> = self.0.keys().map(String::as_str).collect();
-        let mut expected = expected.to_vec();
-        expected.sort();
-        assert_eq!(met, expected, "{:?}", self.0);
-        assert!(self.0.values().all(|met| often < *met), "{:?}", self.0);
     }
 }
 
@@ -812,6 +807,7 @@ fn call_between(random: &mut Random, reader: &mut Reader, met: &mut Met) {
         1 => ("reading", reader.reading(entry).map(drop)),
         2 => ("ask", reader.ask(entry, 1, 0).map(drop)),
         3 => ("ask", reader.ask(&[b'a'; 4_097], 1, 0).map(drop)),
+        4 => ("opening", reader.opening(entry).map(drop)),
         _ => return,
     };
     met.found(call, &found, |()| "answered".to_string());
@@ -849,6 +845,8 @@ fn corrections() {
         "correct refused 18",
         "verdict answered",
         "verdict refused 7",
+        "opening answered",
+        "opening refused 7",
         "reading answered",
         "ask answered",
         "ask refused 6",

@@ -1,11 +1,12 @@
 //! Benchmarks of the proved calls beside Rust twins, LPeg and leg: `cargo bench --manifest-path rust/Cargo.toml --features test-calls`.
 //!
 //! It prints the tables of docs/BENCHMARKS.md. valgrind, lua5.4, lua-lpeg and peg are Debian's packages; where valgrind is absent, its columns stay
-//! empty. With `--calls SUBJECT COUNT` it only makes the calls of one subject, which is what valgrind counts; with `--corrections` it prints the table of
-//! corrections only.
+//! empty. With `--calls SUBJECT COUNT` it only makes the calls of one subject, which is what valgrind counts; with `--corrections` or `--openings` it prints
+//! the table of corrections or of openings only.
 mod correction;
 mod fastest;
 mod machine;
+mod opening;
 mod peers;
 mod plain;
 mod reading;
@@ -557,12 +558,16 @@ fn main() {
     if arguments.iter().any(|word| word == "--corrections") {
         return correction::table();
     }
+    if arguments.iter().any(|word| word == "--openings") {
+        return opening::table();
+    }
     question_table();
     society_table();
     parts_table();
     entry_table();
     growth_table();
     correction::table();
+    opening::table();
     println!("\n## Machine, writer and checker, millions a second\n");
     println!("| | proved | twin | time, of the twin's |");
     println!("|---|---|---|---|");

@@ -121,6 +121,51 @@ pub fn wide(variables: u32, n: usize) -> Question {
     }
 }
 
+/// So many letters less one, and a full stop, behind which alone there is a loop: few of the variables, 5 or more, are asked for at a position.
+pub fn last_byte(variables: usize, n: usize) -> Question {
+    let mut rules = vec![
+        [4, 2, 1, 3],
+        [2, 97, 0, 0],
+        [4, 4, 5, 5],
+        [2, 46, 0, 0],
+        [4, 5, 5, 5],
+    ];
+    rules.resize(variables, [0; 4]);
+    Question {
+        name: "a loop at the end, few cells",
+        sheet: sheet(&rules),
+        entry: ended(n),
+    }
+}
+
+/// The same with a choice of 126 bytes at each position, of which the letter is the last: nearly all of 256 variables are asked for.
+pub fn last_byte_of_choices(n: usize) -> Question {
+    let choices = 126;
+    let [behind, stop, round] = [1, 2, 3].map(|i| 2 * choices + i);
+    let mut rules: Vec<[u32; 4]> = (1..=choices)
+        .map(|i| [4, choices + i, 1, if i == choices { behind } else { i + 1 }])
+        .collect();
+    rules.extend((1..=choices).map(|i| [2, if i == choices { 97 } else { FIRST + i }, 0, 0]));
+    rules.extend([
+        [4, stop, round, round],
+        [2, 46, 0, 0],
+        [4, round, round, round],
+    ]);
+    rules.resize(256, [0; 4]);
+    Question {
+        name: "a loop at the end, nearly all cells",
+        sheet: sheet(&rules),
+        entry: ended(n),
+    }
+}
+
+/// So many letters less one, and a full stop.
+fn ended(n: usize) -> Vec<u8> {
+    let mut entry = vec![b'a'; n];
+    entry[n - 1] = b'.';
+    entry
+}
+
 /// Rules in the making: a sequence, a choice, an option and a repetition as rules of kind 4.
 pub struct Rules(Vec<[u32; 4]>);
 

@@ -1,5 +1,5 @@
-//! Sheets as societies write them: a wide one for the lines of a register, where a question decides few cells of the table, and a narrow one of class
-//! rules, where it decides most of them.
+//! Sheets as societies write them: a wide one for the lines of a register, where a question decides few cells of the table, a smaller one that loops
+//! behind a remark, and a narrow one of class rules, where a question decides most of them.
 use crate::plain::class;
 use crate::sheets::{MONTHS, Question, Rules, UNITS, sheet};
 
@@ -182,8 +182,8 @@ pub fn one_line(number: usize) -> Question {
     lines("register lines, V = 251", &(line(number) + "."))
 }
 
-/// A page of lines as one entry, of at most so many bytes.
-pub fn long_lines(most: usize) -> Question {
+/// Lines of a page with a semicolon between them, as many as have fewer letters than this, and one at least.
+fn page(line: fn(usize) -> String, most: usize) -> String {
     let mut text = line(0);
     for i in 1.. {
         let longer = format!("{text}; {}", line(i));
@@ -192,7 +192,57 @@ pub fn long_lines(most: usize) -> Question {
         }
         text = longer;
     }
-    lines("register lines, V = 251", &(text + "."))
+    text
+}
+
+/// A page of lines as one entry, of at most so many bytes.
+pub fn long_lines(most: usize) -> Question {
+    lines("register lines, V = 251", &(page(line, most) + "."))
+}
+
+/// Shorter lines, `baptised 1843, Mary Ann Hobbs`, with a remark in brackets or none. A word of a remark may have no letters, and words come as often as
+/// they come: where the letters end, they come back to themselves.
+fn remarks_sheet() -> Vec<u8> {
+    let mut rules = Rules::new();
+    let [digit, capital, small, blank] = [1, 2, 3, 4].map(|class| rules.class(class));
+    let [comma, semicolon] = [",", ";"].map(|mark| {
+        let mark = rules.word(mark);
+        rules.sequence(&[mark, blank])
+    });
+    let event = rules.words(&["baptised", "buried"]);
+    let year = rules.sequence(&[digit; 4]);
+    let letters = rules.many(small);
+    let name = rules.sequence(&[capital, letters]);
+    let further = rules.sequence(&[blank, name]);
+    let further = rules.many(further);
+    let blanks = rules.option(blank);
+    let word = rules.sequence(&[letters, blanks]);
+    let words = rules.many(word);
+    let [opened, closed] = ["(", ")"].map(|mark| rules.word(mark));
+    let remark = rules.sequence(&[blank, opened, words, closed]);
+    let remark = rules.option(remark);
+    let line = rules.sequence(&[event, blank, year, comma, name, further, remark]);
+    let lines = rules.sequence(&[semicolon, line]);
+    let lines = rules.many(lines);
+    let stop = rules.word(".");
+    let page = rules.sequence(&[line, lines, stop]);
+    rules.sheet(page)
+}
+
+/// A page of such lines as one entry of so many bytes, 60 or more, of which one in the middle has a remark.
+pub fn remark(n: usize) -> Question {
+    let line = |i: usize| {
+        let event = one(&["baptised", "buried"], i);
+        let (year, surname) = (1650 + i * 37 % 250, one(&SURNAMES[..3], i));
+        format!("{event} {year}, {} {surname}", one(&MEN, i))
+    };
+    let mut text = format!("{} (twin of john); {}", page(line, n / 2), page(line, n));
+    text.truncate(n - 1);
+    Question {
+        name: "a remark in the middle",
+        sheet: remarks_sheet(),
+        entry: bytes(&(text + ".")),
+    }
 }
 
 /// The same lines without their marks: every byte is sorted by its class, small letters last, up to a mark. A pair that calls others calls two, so that

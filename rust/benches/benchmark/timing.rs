@@ -22,6 +22,13 @@ pub fn medians(subjects: &mut [Subject]) -> Vec<f64> {
     times.iter_mut().map(|times| median(times)).collect()
 }
 
+/// The nanoseconds of one call of a subject, which is made once.
+pub fn once((_, run): &mut Subject) -> f64 {
+    let start = Instant::now();
+    run(1);
+    start.elapsed().as_nanos() as f64
+}
+
 fn enough(run: &mut dyn FnMut(usize)) -> usize {
     run(1);
     let start = Instant::now();

@@ -80,6 +80,16 @@ static void verdicts(void)
     print("table", table, SHOWN);
 }
 
+static void opening(void)
+{
+    uint32_t answer[2];
+    lend(answer, 2);
+    uint32_t returned = entryreader_opening(
+        sheet, sheet_length, entry, entry_length, table, NUMBERS, work, CELLS, &answer);
+    report("opening", returned, answer, 2);
+    print("table", table, SHOWN);
+}
+
 /* The question, and a correction of the byte at 0 to what it is. */
 static void questions(void)
 {
@@ -118,6 +128,7 @@ int main(void)
         shorthand();
         read_sheet();
         verdicts();
+        opening();
         questions();
         reading();
     }

@@ -2,7 +2,7 @@
 use crate::lent::Lent;
 use crate::questions::{self, Case};
 use crate::random::Random;
-use crate::recognizer::{self, Answered, Ending, Outcome, Ran, Size, Written, bytes, code};
+use crate::recognizer::{self, Answered, Ending, Opened, Outcome, Ran, Size, Written, bytes, code};
 use entryreader::{Claim, Pair, lent as exported, test_calls};
 use std::collections::{BTreeMap, BTreeSet};
 
@@ -11,11 +11,16 @@ const OUTCOMES: &[&str] = &["success", "failure", "loop", "missing", "end"];
 const VERDICTS: &[&str] = &["recognised", "partial", "failure", "loop", "missing", "end"];
 
 /// What each call can say, and the numbers of its refusals; and how many cells a question decides.
-const ANSWERS: [(&str, &[&str], &[u32]); 8] = [
+const ANSWERS: [(&str, &[&str], &[u32]); 9] = [
     ("sheet", &["read"], &[1, 2, 3, 4, 5]),
     ("question", OUTCOMES, &[1, 2, 3, 4, 5, 6, 8, 9, 10]),
     ("verdict", VERDICTS, &[1, 2, 3, 4, 5, 6, 7, 10]),
     ("judge", VERDICTS, &[1, 2, 3, 4, 5, 6, 7, 10]),
+    (
+        "opening",
+        &["none", "0", "1", "2 or more"],
+        &[1, 2, 3, 4, 5, 6, 7, 10],
+    ),
     (
         "run",
         &["success", "failure", "missing", "end", "spent", "no frame"],
@@ -60,6 +65,16 @@ fn end(outcome: Outcome) -> u32 {
         Outcome::Success(end) => end,
         _ => 0,
     }
+}
+
+fn opened(least: Option<usize>) -> String {
+    let opened = match least {
+        None => "none",
+        Some(0) => "0",
+        Some(1) => "1",
+        Some(_) => "2 or more",
+    };
+    opened.to_string()
 }
 
 /// The question as the program asks it.
@@ -275,6 +290,62 @@ impl Comparison {
         self.count("judge", what);
     }
 
+    /// The opening, and what the recognizer says of it.
+    pub fn opening(&mut self, case: &Case, table: usize, work: usize) -> Result<Opened, u32> {
+        let mut handed = Handed::new(&mut self.random, case);
+        let mut room = Room::new(&mut self.random, [table, work, 0], 2);
+        let returned = test_calls::opening(
+            handed.sheet.slice(),
+            handed.entry.slice(),
+            room.table.slice(),
+            room.work.slice(),
+            room.answer.array(),
+        );
+        let expected = recognizer::opening(&case.sheet, &case.entry, table, work);
+        let expected = expected.map_err(|(number, _)| number);
+        let (code, same, what) = match &expected {
+            Ok(found) => (
+                0,
+                room.holds(&found.numbers(), &found.judged.table, &[]),
+                opened(found.least),
+            ),
+            Err(number) => (100 + number, room.unchanged(), refused(*number)),
+        };
+        let answer = room.answer.slice();
+        assert!(
+            returned == code && same && handed.unchanged(),
+            "opening over {table}, {work}: {returned} {answer:?}, not {what}\n{case}"
+        );
+        self.count("opening", what);
+        self.exported_opening(case, table, work, &expected);
+        expected
+    }
+
+    /// The opening as the program asks for it.
+    fn exported_opening(
+        &mut self,
+        case: &Case,
+        table: usize,
+        work: usize,
+        expected: &Result<Opened, u32>,
+    ) {
+        let mut handed = Handed::new(&mut self.random, case);
+        let mut room = Room::new(&mut self.random, [table, work, 0], 0);
+        let found = exported::opening(
+            handed.sheet.slice(),
+            handed.entry.slice(),
+            room.table.slice(),
+            room.work.slice(),
+        );
+        let (said, same) = match expected {
+            Ok(found) => (Ok(found.least), room.holds(&[], &found.judged.table, &[])),
+            Err(number) => (Err(*number), room.unchanged()),
+        };
+        let found = found.map_err(|error| error.number());
+        assert_eq!(found, said, "opening: {case}");
+        assert!(same && handed.unchanged(), "opening: {case}");
+    }
+
     pub fn run(&mut self, case: &Case, frames: usize, budget: u32) {
         let mut handed = Handed::new(&mut self.random, case);
         let mut lent = Lent::any(&mut self.random, frames);
@@ -431,6 +502,10 @@ impl Comparison {
         self.question(case, table, work);
         self.verdict(case);
         self.judge(case, table, work);
+        // Of longer entries the recognizer would try too many openings.
+        if !(300..=4096).contains(&case.entry.len()) {
+            drop(self.opening(case, table, work));
+        }
         let (frames, budget) = self.machine(recognizer::size(case.question()));
         self.run(case, frames, budget);
         self.write(case, table, work, output);

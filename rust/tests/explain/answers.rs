@@ -12,7 +12,7 @@ pub const H: &str = "    6    1   46    0    0
 ";
 
 /// A sheet of so many variables, with these lines.
-fn sheet(variables: usize, lines: &str) -> String {
+pub fn sheet(variables: usize, lines: &str) -> String {
     format!("{variables:5}    1   46    0    0\n{lines}")
 }
 
@@ -187,6 +187,11 @@ fn a_round_behind_the_question() {
 
     a.
      ^ the round is at 1, and takes no byte
+
+The first of 2 bytes is enough: it loops too, and the empty entry does not.
+
+    a.
+    ^ the first byte loops already
 
 1 at 0: 5, then 2; or, where 5 fails, 2
   5 at 0 succeeds, and takes "a", 0 to 1

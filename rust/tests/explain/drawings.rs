@@ -1,6 +1,7 @@
 //! Drawings: what stands where in them.
 use crate::answers::{H, letters};
 use crate::arguments::own_path;
+use crate::openings::{AT_ONCE, behind_letters};
 use crate::program::{SHEET, printed, run};
 use std::fs;
 use std::os::unix::ffi::OsStrExt;
@@ -118,6 +119,58 @@ fn arrows_of_a_round() {
     assert!(texts(&drawing, "").contains(&advice));
 }
 
+/// A bar behind the first two of four bytes, the words beside it, and the sentence right above the advice.
+#[test]
+fn bar_of_an_opening() {
+    let drawing = draw("opening.svg", &behind_letters(), b"axa.", 1);
+    assert_eq!(
+        texts(&drawing, "opening"),
+        ["the first 2 bytes loop already"]
+    );
+    let bars = elements(&drawing, "rect", "opening");
+    assert_eq!(bars.len(), 1);
+    let [left, top, width, height] = numbers(bars[0], ["x", "y", "width", "height"]);
+    assert_eq!(width, 18 * 2);
+    // The bytes are centred in their columns, and stand on the bar; so does the label, left of it.
+    let bytes = elements(&drawing, "text", "byte");
+    let [first, line] = numbers(bytes[0], ["x", "y"]);
+    assert_eq!(first, left + 9);
+    assert!(top < line && line < top + height);
+    let [label, beside] = numbers(elements(&drawing, "text", "opening")[0], ["x", "y"]);
+    assert!(label + 8 * "the first 2 bytes loop already".len() < left && beside == line);
+    // What is drawn later covers what was drawn before.
+    let index = |element: &str| drawing.iter().position(|line| line == element);
+    assert!(index(bars[0]) < index(bytes[0]));
+    let sentence = "The first 2 of 4 bytes are enough: they loop too, and no fewer do.";
+    let advice = "One of the rules of this round must take a byte before it comes back to 3 at 1.";
+    assert!(texts(&drawing, "").ends_with(&[sentence, advice]));
+}
+
+/// For no byte there are the words only; for the whole entry the bar is as wide as the bytes.
+#[test]
+fn bars_of_no_byte_and_of_all() {
+    let drawing = draw("no-byte.svg", AT_ONCE, b"aa.", 1);
+    assert_eq!(
+        texts(&drawing, "opening"),
+        ["the empty entry loops already"]
+    );
+    assert!(elements(&drawing, "rect", "opening").is_empty());
+    let drawing = draw("all-bytes.svg", &behind_letters(), b"aa.", 1);
+    assert_eq!(texts(&drawing, "opening"), ["only the whole entry loops"]);
+    let bars = elements(&drawing, "rect", "opening");
+    assert_eq!(numbers(bars[0], ["width"]), [18 * 3]);
+}
+
+/// Without a verdict, or with another, nothing is said of an opening.
+#[test]
+fn no_bar_without_an_opening() {
+    for (sheet, entry, status) in [(AT_ONCE, &b"a"[..], 1), (H, b"-6.", 0), (H, b"x.", 1)] {
+        let drawing = draw("no-opening.svg", sheet, entry, status);
+        assert!(texts(&drawing, "opening").is_empty());
+        assert!(elements(&drawing, "rect", "opening").is_empty());
+    }
+}
+
 /// The chain of case e: two pairs wait, the third is marked at 2, in the same row as its label.
 #[test]
 fn chain_of_e() {
@@ -163,6 +216,9 @@ fn long_ways_to_a_round_are_cut() {
     let [first, _] = numbers(circles[0], ["cx", "cy"]);
     let [last, _] = numbers(circles[399], ["cx", "cy"]);
     assert_eq!(last - first, 18 * (4000 - 3602));
+    // All the bytes that are drawn are needed.
+    let bars = elements(&drawing, "rect", "opening");
+    assert_eq!(numbers(bars[0], ["width"]), [18 * 400]);
 }
 
 /// Bytes that mean something in XML, bytes that are no characters, a blank.

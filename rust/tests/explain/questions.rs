@@ -28,6 +28,8 @@ struct Met {
     again: usize,
     long_rounds: usize,
     rounds_behind: usize,
+    openings: usize,
+    longer_openings: usize,
 }
 
 impl Met {
@@ -66,10 +68,16 @@ fn sheet(random: &mut Random) -> String {
     text
 }
 
-/// An entry. An argument of a program has no byte 0.
+/// An entry, half of them with the endmarker at their end alone. An argument of a program has no byte 0.
 fn entry(random: &mut Random) -> Vec<u8> {
     let length = random.index(8);
-    (0..length).map(|_| random.pick(b"aa\xE9\x01.")).collect()
+    let bytes = (0..length).map(|_| random.pick(b"aa\xE9\x01."));
+    let mut entry: Vec<u8> = bytes.collect();
+    if random.one_in(2) {
+        entry.retain(|byte| *byte != b'.');
+        entry.push(b'.');
+    }
+    entry
 }
 
 fn pair(text: &str) -> Pair {
@@ -226,6 +234,27 @@ const QUESTION: Pair = Pair {
     position: 0,
 };
 
+/// What is needed of an entry is told exactly where there is a verdict: the least number of first bytes about which the question is answered with a loop.
+fn compare_opening(printed: &str, reader: &Reader, entry: &[u8], met: &mut Met) {
+    let mut reader = reader.clone();
+    let judged = reader.verdict(entry).is_ok();
+    let mut answer = |bytes: usize| reader.ask(&entry[..bytes], 1, 0);
+    let mut loops = |bytes: &usize| matches!(answer(*bytes), Ok(Answer::Loop { .. }));
+    let of = entry.len();
+    let least = (0..=of).find(|bytes| loops(bytes));
+    let sentence = match least.expect("the whole entry loops") {
+        0 => String::from("No byte is needed: "),
+        bytes if bytes == of => String::from("The whole entry is needed: "),
+        1 => format!("The first of {of} bytes is enough: "),
+        bytes => format!("The first {bytes} of {of} bytes are enough: "),
+    };
+    let told = printed.contains(" enough: ") || printed.contains(" needed: ");
+    let as_found = printed.contains(&format!("\n\n{sentence}"));
+    assert_eq!((told, as_found), (judged, judged), "{printed}");
+    met.openings += usize::from(judged);
+    met.longer_openings += usize::from(judged && least != Some(0));
+}
+
 /// Compares what is printed of a question.
 fn compare(sheet: &str, entry: &[u8], met: &mut Met) {
     let mut reader = Reader::new(sheet.as_bytes()).expect("a sheet");
@@ -258,6 +287,7 @@ fn compare(sheet: &str, entry: &[u8], met: &mut Met) {
             );
             met.long_rounds += usize::from(start + 1 < steps.len());
             met.rounds_behind += usize::from(start != 0);
+            compare_opening(&run.printed, &reader, entry, met);
         }
         Answer::Missing { named, .. } => drop(asked.compare_chain(last(), named, 3)),
         Answer::End { named, .. } => drop(asked.compare_chain(last(), named, 4)),
@@ -281,6 +311,8 @@ fn random_questions() {
         again,
         long_rounds,
         rounds_behind,
+        openings,
+        longer_openings,
     } = met;
     let counts = [
         successes,
@@ -291,6 +323,8 @@ fn random_questions() {
         again,
         long_rounds,
         rounds_behind,
+        openings,
+        longer_openings,
     ];
     assert!(counts.iter().all(|count| ENOUGH <= *count), "{counts:?}");
 }

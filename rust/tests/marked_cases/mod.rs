@@ -35,6 +35,16 @@ pub const J: &str = "    2    1   46    0    0
     1    4    2    2    2
 ";
 
+/// No marked entry: any number of `6`, then `-` and a loop.
+pub const BEHIND: &str = "    6    1   46    0    0
+    1    4    2    1    3
+    2    2   54    0    0
+    3    4    4    5    6
+    4    2   45    0    0
+    5    4    5    5    5
+    6    1    0    0    0
+";
+
 /// The reading of case a.
 pub const READING: &str = "       2       0       0       1       0       0
        4       1       0       2       0       0

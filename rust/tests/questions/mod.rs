@@ -14,6 +14,25 @@ pub struct Case {
 }
 
 impl Case {
+    /// About variable 1 at a position, on a sheet whose line 1 is right.
+    pub fn new(sheet: impl AsRef<[u8]>, entry: &[u8], position: u32) -> Case {
+        let sheet = sheet.as_ref().to_vec();
+        let variables = std::str::from_utf8(&sheet[..5]).map(str::trim);
+        let variables: usize = variables
+            .ok()
+            .and_then(|digits| digits.parse().ok())
+            .expect("line 1 has V");
+        Case {
+            cells: variables * (entry.len() + 1),
+            sheet,
+            entry: entry.to_vec(),
+            asked: Pair {
+                variable: 1,
+                position,
+            },
+        }
+    }
+
     pub fn question(&self) -> Question<'_> {
         Question {
             sheet: &self.sheet,

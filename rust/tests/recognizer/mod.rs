@@ -1,4 +1,4 @@
-//! A recognizer of its own, written from document 01 and, for reaches, order 6 of document 02: recursive, with a memo in a hash map.
+//! A recognizer of its own, written from document 01 and, for reaches and openings, orders 6 and 7 of document 02: recursive, with a memo in a hash map.
 //! Reached pairs and the named pair are found by their definitions, after the outcomes. A refusal is its number; that of a sheet or a verdict has its
 //! line too.
 mod machine;
@@ -19,7 +19,8 @@ enum Rule {
     Calls(u32, u32, u32),
 }
 
-struct Sheet {
+/// A sheet that is accepted.
+pub struct Sheet {
     variables: u32,
     start: u32,
     endmarker: u8,
@@ -153,7 +154,7 @@ fn add_rule(sheet: &mut Sheet, before: &mut u32, bytes: &[u8]) -> Result<(), u32
 }
 
 /// Refusals 1 to 5, in their order.
-fn read(sheet: &[u8]) -> Result<Sheet, Refused> {
+pub fn read(sheet: &[u8]) -> Result<Sheet, Refused> {
     let lines: Vec<&[u8]> = sheet.chunks(26).collect();
     if lines.is_empty()
         || lines.len() > 257
@@ -422,6 +423,39 @@ pub fn verdict(sheet: &[u8], entry: &[u8]) -> Result<Code, u32> {
     judge(sheet, entry, 2048, 1024)
         .map(|judged| judged.code)
         .map_err(|(number, _)| number)
+}
+
+/// Do these bytes loop, "asked at the start variable and place 0"?
+pub fn loops(sheet: &Sheet, bytes: &[u8]) -> bool {
+    let start = Pair {
+        variable: sheet.start,
+        position: 0,
+    };
+    Recognizer::new(sheet, bytes).outcome(start) == Outcome::Loop
+}
+
+/// What the opening is: the verdict with its cells, and "for a looping verdict .. the least m".
+pub struct Opened {
+    pub judged: Judged,
+    pub least: Option<usize>,
+}
+
+impl Opened {
+    /// The numbers that the call leaves of it.
+    pub fn numbers(&self) -> [u32; 2] {
+        self.least.map_or([0, 0], |least| [1, least as u32])
+    }
+}
+
+/// What the opening is to say over slices of these lengths, or its refusal. Each m is tried.
+pub fn opening(sheet: &[u8], entry: &[u8], table: usize, work: usize) -> Result<Opened, Refused> {
+    let judged = judge(sheet, entry, table, work)?;
+    let sheet = read(sheet)?;
+    let least = match judged.code {
+        Code::Loop => (0..=entry.len()).find(|m| loops(&sheet, &entry[..*m])),
+        _ => None,
+    };
+    Ok(Opened { judged, least })
 }
 
 fn answer(recognizer: &mut Recognizer, asked: Pair, size: usize) -> Answered {

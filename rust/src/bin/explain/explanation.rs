@@ -1,6 +1,7 @@
 //! What a sheet makes of an entry, and why.
 use crate::case::Case;
 use crate::chain::{self, First, Step};
+use crate::opening::Opening;
 use crate::tree::{Row, Tree};
 use crate::{picture, words};
 use entryreader::{Answer, Error, Line, Pair, Reader, Refusal, Verdict};
@@ -20,6 +21,8 @@ pub struct Explanation {
     /// Refused (7) where the entry does not end with the endmarker, or has it earlier too; the answer is there all the same.
     judged: Result<Verdict, Error>,
     answer: Answer,
+    /// Where the verdict is loop.
+    pub opening: Option<Opening>,
     /// The lines of the reading; none for loop, missing and end.
     pub lines: Vec<Line>,
     /// The steps of the waiting; none for success and failure.
@@ -27,7 +30,7 @@ pub struct Explanation {
 }
 
 impl Explanation {
-    /// Asks for the verdict and the reading; only an entry that is too long has none.
+    /// Asks for the verdict, the opening and the reading; only an entry that is too long has none.
     pub fn new(reader: &mut Reader, entry: &[u8]) -> Result<Explanation, Error> {
         let judged = reader.verdict(entry);
         if let Err(error) = judged
@@ -35,6 +38,14 @@ impl Explanation {
         {
             return Err(error);
         }
+        let least = match judged {
+            Ok(Verdict::Loop { .. }) => reader.opening(entry)?,
+            _ => None,
+        };
+        let opening = least.map(|bytes| Opening {
+            bytes,
+            of: entry.len(),
+        });
         let reading = reader.reading(entry)?;
         let asked = Pair {
             variable: reader.start(),
@@ -47,6 +58,7 @@ impl Explanation {
         Ok(Explanation {
             judged,
             answer: reading.answer,
+            opening,
             lines: reading.lines,
             steps,
         })
@@ -83,6 +95,9 @@ impl Explanation {
         writeln!(out, "{}", self.headline(case))?;
         let (position, mark) = self.mark(case);
         picture::write(out, case.entry, words::index(position), &mark)?;
+        if let Some(opening) = self.opening {
+            write_opening(case, opening, out)?;
+        }
         writeln!(out)?;
         Tree::new(&self.lines).try_for_each(|row| write_row(case, &row, out))?;
         self.write_steps(case, out)
@@ -253,6 +268,12 @@ fn write_endmarker(case: Case, error: &Error, out: &mut dyn Write) -> io::Result
         picture::write(out, case.entry, before.len(), &mark)?;
     }
     Ok(())
+}
+
+/// Writes how much of the entry loops already.
+fn write_opening(case: Case, opening: Opening, out: &mut dyn Write) -> io::Result<()> {
+    writeln!(out, "\n{}", opening.sentence())?;
+    picture::write_first(out, case.entry, opening.bytes, &opening.mark())
 }
 
 /// Writes a row of the tree.

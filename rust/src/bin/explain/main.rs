@@ -5,6 +5,7 @@ mod case;
 mod chain;
 mod drawing;
 mod explanation;
+mod opening;
 mod picture;
 mod sheet_fault;
 mod text_fault;

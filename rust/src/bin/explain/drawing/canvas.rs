@@ -11,6 +11,8 @@ text.number { text-anchor: middle; font-size: 10px; fill: #777777 }
 text.position { text-anchor: middle; font-size: 10px; fill: #777777 }
 text.taken { fill: #ffffff }
 text.here { fill: #b3261e; stroke: none; font-weight: bold }
+text.opening { fill: #8a5a00; font-weight: bold }
+rect.opening { fill: #ffe3a3 }
 .stripe { fill: #f3f4f6 }
 .grid { stroke: #d8dbe0; stroke-width: 1 }
 path.here { stroke: #b3261e; stroke-width: 1; stroke-dasharray: 3 3 }

@@ -4,6 +4,7 @@ mod rows;
 
 use crate::case::Case;
 use crate::explanation::Explanation;
+use crate::opening::Opening;
 use crate::words;
 use canvas::Canvas;
 use entryreader::shown;
@@ -39,6 +40,9 @@ pub fn svg(explanation: &Explanation, case: Case) -> String {
     let layout = Layout::new(&rows, case.entry.len(), position);
     let mut canvas = Canvas::default();
     layout.draw_stripes(&mut canvas);
+    if let Some(opening) = explanation.opening {
+        layout.draw_opening(&mut canvas, opening);
+    }
     layout.draw_entry(&mut canvas, case.entry);
     layout.draw_position(&mut canvas, position);
     for (number, row) in rows.drawn.iter().enumerate() {
@@ -59,7 +63,7 @@ pub fn svg(explanation: &Explanation, case: Case) -> String {
     canvas.finish(width, layout.bottom() + ROW * (notes.len() + 3))
 }
 
-/// What is said below the drawing: what is to be done, why the entry is refused, what is left out.
+/// What is said below the drawing: what is needed for a loop, what is to be done, why the entry is refused, what is left out.
 fn notes(explanation: &Explanation, case: Case, rows: &Rows, layout: &Layout) -> Vec<String> {
     let (all, drawn) = (rows.all, rows.drawn.len());
     let which = if rows.skipped == 0 { "first" } else { "last" };
@@ -67,6 +71,7 @@ fn notes(explanation: &Explanation, case: Case, rows: &Rows, layout: &Layout) ->
     let (length, first, last) = (case.entry.len(), layout.first, layout.last);
     let cut_bytes = format!("Cut: of {length} bytes those from {first} to {last} are drawn.");
     let notes = [
+        explanation.opening.map(Opening::sentence),
         explanation.advice(case),
         explanation.refused(),
         (drawn < all).then_some(cut_rows),
@@ -140,6 +145,16 @@ impl Layout {
             let width = self.width() - MARGIN;
             canvas.rectangle("stripe", [MARGIN / 2, self.y(row) - ROW / 2, width, ROW]);
         }
+    }
+
+    /// A bar behind the first bytes, as many as loop already, and in front of them the words.
+    fn draw_opening(&self, canvas: &mut Canvas, opening: Opening) {
+        let (left, right) = (self.x(0), self.x(opening.bytes));
+        if left < right {
+            canvas.rectangle("opening", [left, ENTRY - 15, right - left, ROW]);
+        }
+        // A row that waits has a longer label.
+        canvas.text("opening", self.labels, ENTRY, &opening.mark());
     }
 
     /// The bytes of the entry, and every fifth position.
