@@ -84,7 +84,7 @@ seeking-begins rule v input x T W = record {
 }
 
 module _ {rule : ℕ → Rule} {v : ℕ} {input : List ℕ} {x : Pair} {T₀ T W₀ W : List ℕ} {m : ℕ} (seeking : Seeking rule v input x T₀ T W₀ W m) where
-  module _ {s T′ W′ : List ℕ} (r : Bool) (part : s ≡ take m input) (asked-part : AskedLoop rule v s x T T′ W W′ r) where
+  module _ {s T′ W′ : List ℕ} (r : Bool) (asked-part : AskedLoop rule v s x T T′ W W′ r) (part : s ≡ take m input) where
     asked : AskedLoop rule v (take m input) x T T′ W W′ r
     asked = subst (λ (s : List ℕ). AskedLoop rule v s x T T′ W W′ r) part asked-part
 

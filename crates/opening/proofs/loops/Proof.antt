@@ -16,7 +16,10 @@ same-length-2 : tie.Need-same-length-2
 same-length-2 c = search needs
 
 returns : tie.Need-returns
-returns c = asked-loop (c .before .before .before .before .before .before .ask .result) (c .before .before .before .before .before .before .ask .ensures) (c .enum-told .given .1)
+returns c =
+    let a = c .before .before .before .before .before .before .ask in
+    let held = c .enum-told .given .0 in
+    asked-loop (a .result) (a .ensures) {A = held .0} {p = held .1 .0} {count = held .1 .1 .0} (c .enum-told .given .1)
 
 same-length-3 : tie.Need-same-length-3
 same-length-3 c = search needs

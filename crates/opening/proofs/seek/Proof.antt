@@ -46,7 +46,8 @@ same-length-2 c = c .before .before .before .before .before .loops .ensures .siz
 returns : tie.Need-returns Inv-loop μ-loop
 returns c =
     let l = c .before .before .before .before .before .before .before .before .before .before .loop in
-    found-here (l .inv) _ (part-is (l .m) _) (c .before .before .before .before .before .loops .ensures) (c .before .before .before .before .before .before .before .before .before .loop-test .taken) (c .if1 .taken)
+    let a = c .before .before .before .before .before .before .before .before .before .before .before .before .before .before .args in
+    found-here (l .inv) _ (c .before .before .before .before .before .loops .ensures) (part-is (l .m) (a .input .now)) (c .before .before .before .before .before .before .before .before .before .loop-test .taken) (c .if1 .taken)
 
 add-m : tie.Need-add-m Inv-loop μ-loop
 add-m c = search needs
@@ -57,7 +58,8 @@ loop-less c = search needs
 loop-again : tie.Need-loop-again Inv-loop μ-loop
 loop-again c =
     let l = c .before .before .before .before .before .before .before .before .before .before .loop in
-    seeking-goes-on (l .inv) _ (part-is (l .m) _) (c .before .before .before .before .before .loops .ensures) (c .before .before .before .before .before .before .before .before .before .loop-test .taken) (c .if1 .left)
+    let a = c .before .before .before .before .before .before .before .before .before .before .before .before .before .before .args in
+    seeking-goes-on (l .inv) _ (c .before .before .before .before .before .loops .ensures) (part-is (l .m) (a .input .now)) (c .before .before .before .before .before .before .before .before .before .loop-test .taken) (c .if1 .left)
 
 cast-result-2 : tie.Need-cast-result-2 Inv-loop μ-loop
 cast-result-2 c = omega (arith, c .before .before .before .before .before .pre .ready .short, c .before .loop .inv .inside)
