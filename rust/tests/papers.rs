@@ -141,15 +141,23 @@ fn corrected_page() {
     assert_eq!(verdict(&changed), Ok(Code::Recognised));
 }
 
-/// The drawing that is shown is the one that `explain` writes.
+/// The drawings that are shown are those that `explain` writes.
 #[test]
-fn drawing_in_papers() {
-    let made = Path::new(env!("CARGO_TARGET_TMPDIR")).join("name.svg");
-    let name = made.to_str().expect("a path of text");
-    printed(
-        env!("CARGO_BIN_EXE_explain"),
-        &["--svg", name, "name.txt", "Anna."],
-    );
-    let shown = std::fs::read(docs().join("sheets/name.svg")).expect("it is there");
-    assert!(std::fs::read(made).expect("it was written") == shown);
+fn drawings_in_papers() {
+    for (name, sheet, entry) in [
+        ("name.svg", "name.txt", "Anna."),
+        ("remark.svg", "remarks.txt", "Anna 1847 (twin)."),
+    ] {
+        let made = Path::new(env!("CARGO_TARGET_TMPDIR")).join(name);
+        let path = made.to_str().expect("a path of text");
+        printed(
+            env!("CARGO_BIN_EXE_explain"),
+            &["--svg", path, sheet, entry],
+        );
+        let shown = std::fs::read(docs().join("sheets").join(name)).expect("it is there");
+        assert!(
+            std::fs::read(made).expect("it was written") == shown,
+            "{name}"
+        );
+    }
 }

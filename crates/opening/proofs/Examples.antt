@@ -1,8 +1,8 @@
--- Two sheets and entries, of any result that meets the contract: the outcomes of the openings are computed. Assumes nothing.
+-- Two sheets and three entries, of any result that meets the contract: the outcomes of entries and openings are computed. Assumes nothing.
 use mathlib.Core.Bool.{true, false, true≢false}
 use mathlib.Core.List.{List, [], _∷_}
 use mathlib.Core.Logic.{_≢_}
-use mathlib.Core.Option.{some}
+use mathlib.Core.Option.{none, some}
 use mathlib.Core.Path.{_≡_, refl, subst}
 use Prim.Native.Nat.{ℕ, zero, suc, _*_, _≤_, _<_}
 use native.Mathlib.Decide.{ℕ-discrete}
@@ -20,7 +20,7 @@ use Rattle.grammar.specs.Rule.{ruleOf}
 use Rattle.grammar.specs.Sheet.{grammarOf, sheet, lineAt, ruleWithin, openLine, notLines, headerOut, variableOut, condition, ruleOrder, sheetOrder}
 use Rattle.grammar.specs.Printing.{text}
 use Rattle.schema.specs.Cases.{header}
-use Rattle.schema.specs.Derivation.{Pair, _at_, end, Outcome, stopped, loop, actOf, Has, Loops}
+use Rattle.schema.specs.Derivation.{Pair, _at_, failure, end, Outcome, result, stopped, loop, actOf, Has, Loops}
 use Rattle.schema.specs.Handed.{handed, verdictOf}
 use Rattle.schema.specs.Table.{cells}
 use Rattle.schema.specs.Verdict.{closedBy}
@@ -31,7 +31,7 @@ use Rattle.schema.proofs.Tested.{verdict-by}
 use Rattle.schema.proofs.Walk.{walked, outcomeIn, walk-has}
 use Rattle.opening.specs.Opening.{told, OpeningPromise}
 use Rattle.opening.specs.declared.Prefix.{Prefix}
-use Rattle.opening.proofs.Promised.{least-exactly}
+use Rattle.opening.proofs.Promised.{least-exactly, none-exactly}
 
 module _ (s : List ℕ) (reads : sheet s ≡ accepted (grammarOf s)) where
   abbrev start : Pair
@@ -87,7 +87,7 @@ case-g table table′ work work′ r t w promise =
       record { inside = omega arith; loops = has sheetG reads-g [] loop (outcomes-g .0); none-shorter = λ j l. absurd (omega arith) },
     )
 
--- ---- A loop behind a byte: 1 = 2(1,3), 2 = `6`, 3 = 4(5,6), 4 = `-`, 5 = 5(5,5), 6 fails; the entry is `66-.`.
+-- ---- A loop behind a byte: 1 = 2(1,3), 2 = `6`, 3 = 4(5,6), 4 = `-`, 5 = 5(5,5), 6 fails; the entry is `66-.`, or `66.`, which has no such byte.
 
 abbrev sheetB : List ℕ
 sheetB =
@@ -96,34 +96,38 @@ sheetB =
 abbrev entryB : List ℕ
 entryB = 54 ∷ 54 ∷ 45 ∷ 46 ∷ []
 
+abbrev entryC : List ℕ
+entryC = 54 ∷ 54 ∷ 46 ∷ []
+
 reads-b : sheet sheetB ≡ accepted (grammarOf sheetB)
 unfolding text leading column row digitsAfter number field fields lineAt openLine notLines headerOut variableOut condition ruleOrder sheetOrder ruleOf ruleWithin checked sheet
 reads-b = refl
 
 record Outcomes : Type 0 where
-  none : outcomeOn sheetB reads-b [] ≡ stopped end
+  zero : outcomeOn sheetB reads-b [] ≡ stopped end
   one : outcomeOn sheetB reads-b (54 ∷ []) ≡ stopped end
   two : outcomeOn sheetB reads-b (54 ∷ 54 ∷ []) ≡ stopped end
   three : outcomeOn sheetB reads-b (54 ∷ 54 ∷ 45 ∷ []) ≡ loop
   whole : outcomeOn sheetB reads-b entryB ≡ loop
+  other : outcomeOn sheetB reads-b entryC ≡ result failure
 
 outcomes-b : Outcomes
 unfolding text leading column row digitsAfter number field fields lineAt ruleOf ruleWithin actOf gts numbered sum put fresh count-fresh ℕ-discrete walk ask walked
-outcomes-b = record { none = refl; one = refl; two = refl; three = refl; whole = refl }
+outcomes-b = record { zero = refl; one = refl; two = refl; three = refl; whole = refl; other = refl }
 
-cells-b : cells (grammarOf sheetB .variables) 4 ≡ 30
+cells-b : (cells (grammarOf sheetB .variables) 4 ≡ 30) × (cells (grammarOf sheetB .variables) 3 ≡ 24)
 unfolding text leading column row digitsAfter number field fields lineAt
-cells-b = refl
+cells-b = (refl, refl)
 
-closed-b : closedBy (grammarOf sheetB .endmarker) entryB ≡ true
+closed-b : (closedBy (grammarOf sheetB .endmarker) entryB ≡ true) × (closedBy (grammarOf sheetB .endmarker) entryC ≡ true)
 unfolding text leading column row digitsAfter number field fields lineAt closedBy
-closed-b = refl
+closed-b = (refl, refl)
 
 end-apart : stopped end ≢ loop
 end-apart e = true≢false (cc)
 
 none-shorter-b : (j : ℕ) → j < 3 → Loops (grammarOf sheetB .rule) (take j entryB) (start sheetB reads-b) → ⊥
-none-shorter-b zero l = not-loop sheetB reads-b [] (stopped end) (outcomes-b .none) end-apart
+none-shorter-b zero l = not-loop sheetB reads-b [] (stopped end) (outcomes-b .zero) end-apart
 none-shorter-b (suc zero) l = not-loop sheetB reads-b (54 ∷ []) (stopped end) (outcomes-b .one) end-apart
 none-shorter-b (suc (suc zero)) l = not-loop sheetB reads-b (54 ∷ 54 ∷ []) (stopped end) (outcomes-b .two) end-apart
 none-shorter-b (suc (suc (suc j))) l = absurd (omega arith)
@@ -133,7 +137,18 @@ pub case-behind : (table table′ work work′ : List ℕ) (r : Prefix) → 60 �
     → OpeningPromise sheetB entryB table table′ work work′ r → told r ≡ accepted (some 3)
 case-behind table table′ work work′ r t w promise =
     least-exactly sheetB entryB table work table′ work′ r promise (grammarOf sheetB)
-    (accepted-with sheetB reads-b entryB (length table) (length work) refl closed-b (rw cells-b t) (rw cells-b w)) 3 .1 (
+    (accepted-with sheetB reads-b entryB (length table) (length work) refl (closed-b .0) (rw (cells-b .0) t) (rw (cells-b .0) w)) 3 .1 (
       has sheetB reads-b entryB loop (outcomes-b .whole),
       record { inside = omega arith; loops = has sheetB reads-b (54 ∷ 54 ∷ 45 ∷ []) loop (outcomes-b .three); none-shorter = none-shorter-b },
     )
+
+failure-apart : result failure ≢ loop
+failure-apart e = true≢false (cc)
+
+-- Without the third of them there is no loop, and no opening.
+pub case-none : (table table′ work work′ : List ℕ) (r : Prefix) → 48 ≤ length table → 24 ≤ length work
+    → OpeningPromise sheetB entryC table table′ work work′ r → told r ≡ accepted none
+case-none table table′ work work′ r t w promise =
+    none-exactly sheetB entryC table work table′ work′ r promise (grammarOf sheetB)
+    (accepted-with sheetB reads-b entryC (length table) (length work) refl (closed-b .1) (rw (cells-b .1) t) (rw (cells-b .1) w)) .1
+    (not-loop sheetB reads-b entryC (result failure) (outcomes-b .other) failure-apart)
