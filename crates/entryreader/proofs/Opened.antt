@@ -2,27 +2,24 @@
 use mathlib.Core.List.{List}
 use mathlib.Core.Logic.{_≢_, _↔_}
 use mathlib.Core.Option.{Option}
-use mathlib.Core.Path.{_≡_, refl}
+use mathlib.Core.Path.{_≡_}
 use Prim.Native.Nat.{ℕ, _+_}
 use native.Mathlib.Omega.{arith}
 use lib.ListN.{length}
-use Rattle.grammar.specs.Refusal.{Checked, refused, accepted}
 use Rattle.schema.specs.Exported.{Fits}
 use Rattle.schema.specs.Handed.{Refuses, verdictOf}
 use Rattle.schema.proofs.Following.{Follows}
 use Rattle.opening.specs.Opening.{told, OpeningPromise}
 use Rattle.opening.specs.declared.Prefix.{Prefix}
 use Rattle.opening.proofs.Promised.{opening-follows, opening-small}
+use Rattle.reports.proofs.Fitting.{fits-each}
 use Rattle.entryreader.specs.Opened.{openingNumbers, OpeningNumbers}
 use Rattle.entryreader.proofs.Demand1.{follows-refused, follows-answered, follows-unchanged}
 
 -- The number of a refusal fits 32 bits.
 pub opening-fits : (s input table table′ work work′ : List ℕ) (r : Prefix) → OpeningPromise s input table table′ work work′ r → Fits (λ _. 0) (told r)
-opening-fits s input table table′ work work′ r promise = by-answer (told r) refl
-  where
-    by-answer : (o : Checked (Option ℕ)) → told r ≡ o → Fits (λ _. 0) o
-    by-answer (refused x l) e = let k = opening-small s input table work table′ work′ r promise x l e in omega arith
-    by-answer (accepted a) e = omega arith
+opening-fits s input table table′ work work′ r promise =
+    fits-each (λ _. 0) (told r) (λ x l e. let k = opening-small s input table work table′ work′ r promise x l e in omega arith) (λ a e. omega arith)
 
 module _ (s input table table′ work work′ answer answer′ : List ℕ) (r : ℕ) (promise : OpeningNumbers s input table table′ work work′ answer answer′ r) where
   opening-as : Follows (Option ℕ) s (verdictOf input (length table) (length work)) (told (promise .found)) ((table′ ≡ table) × (work′ ≡ work))

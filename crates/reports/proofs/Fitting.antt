@@ -31,6 +31,11 @@ pub accepted-code : (s : List ℕ) (h : Handed) (g : Grammar) (A p : ℕ) → ha
 accepted-code s h g A p e f o d =
     let k = code-small (g .rule) (h .input) A p o (handed-pair s h g e (A at p) f .position) (handed-input s h g e) d in omega arith
 
+-- An answer fits where each refusal and each code that it can be does.
+pub fits-each : {A : Type 0} (code-of : A → ℕ) (t : Checked A) → ((x l : ℕ) → t ≡ refused x l → x ≤ 19) → ((a : A) → t ≡ accepted a → code-of a ≤ 10001) → Fits code-of t
+fits-each code-of (refused x l) small few = small x l refl
+fits-each code-of (accepted a) small few = few a refl
+
 -- ---- The writer.
 
 module _ (s input : List ℕ) (A p : ℕ) (table table′ work work′ out out′ : List ℕ) (r : Written)
@@ -70,11 +75,9 @@ module _ (s input : List ℕ) (A p : ℕ) (reading : List ℕ) (r : Claim) (chec
       subst (λ (d : Claimed). claimCode d ≤ 10001) (sym same) (rw (claim-code A p t) k)
 
   pub check-fits : Fits claimCode (claims r)
-  check-fits = by-claim (claims r) refl
-    where
-      by-claim : (o : Checked Claimed) → claims r ≡ o → Fits claimCode o
-      by-claim (refused y l) e = let k = check-small s input (A at p) reading y l (sym checks ∙ e) in omega arith
-      by-claim (accepted c) e = passed c e (handed s (asked input (A at p))) refl
+  check-fits =
+      fits-each claimCode (claims r) (λ y l e. let k = check-small s input (A at p) reading y l (sym checks ∙ e) in omega arith)
+      (λ c e. passed c e (handed s (asked input (A at p))) refl)
 
   -- The numbers of the answer are those of the definition.
   pub check-numbers : (answer answer′ : List ℕ) (n : ℕ) → n ≡ returned (claims r) → answer′ ≡ reported claimNumbers answer (claims r)
