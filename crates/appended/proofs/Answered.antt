@@ -1,7 +1,7 @@
 -- The law of order 3 over results: what question and machine say of an input, the question says again where bytes are appended. Assumes nothing.
 use mathlib.Core.Bool.{true≢false}
 use mathlib.Core.List.{List, _++_}
-use mathlib.Core.Path.{_≡_, refl, sym, _∙_, subst}
+use mathlib.Core.Path.{_≡_, refl, sym, ap, _∙_, subst}
 use Prim.Native.Nat.{ℕ, _*_, _≤_}
 use native.Mathlib.Omega.{arith}
 use lib.ListN.{length, length-append}
@@ -16,7 +16,7 @@ use Rattle.schema.specs.Reached.{Named}
 use Rattle.schema.specs.Table.{Within, cells}
 use Rattle.schema.proofs.Handed.{handed-sheet, handed-pair}
 use Rattle.schema.proofs.Tested.{asked-by, question-follows}
-use Rattle.finish.specs.Reply.{Reply, reply, outcomeOf, countOf, told}
+use Rattle.finish.specs.Reply.{Reply, reply, outcomeOf, namedOf, countOf, SaysSame, told}
 use Rattle.finish.specs.declared.Answer.{Answer}
 use Rattle.memo.specs.Answer.{Answers, Replies, QuestionPromise}
 use Rattle.memo.proofs.Result.{count-is, outcome-is, answer-is}
@@ -24,7 +24,7 @@ use Rattle.backtrack.specs.Run as run
 use Rattle.backtrack.specs.declared.Ending.{Ending}
 use Rattle.backtrack.proofs.Call.{call-derived}
 use Rattle.appended.specs.Appended.{Lasting}
-use Rattle.appended.specs.Answered.{Repeats, AnsweredAgain}
+use Rattle.appended.specs.Answered.{AnsweredAgain}
 use Rattle.appended.proofs.Appended.{comes-again}
 
 -- ---- What a result says of its call.
@@ -103,13 +103,14 @@ module _ (s input added : List ℕ) (A p : ℕ) where
           (comes-again (g .rule) input added (A at p) .named o z lasting has again) (count-is s call g (longer .accepts) (A at p) within (longer .answers))
 
   question-repeats : {table table′ work work′ table₂ table₂′ work₂ work₂′ : List ℕ} {a b : Reply} → Replied s input A p table table′ work work′ a
-      → Replied s (input ++ added) A p table₂ table₂′ work₂ work₂′ b → Lasting (outcomeOf a) → Repeats a b
+      → Replied s (input ++ added) A p table₂ table₂′ work₂ work₂′ b → Lasting (outcomeOf a) → SaysSame a b
   question-repeats {table = table} {work = work} {b = b} one longer lasting =
       let e = one .answers .says in
       let l = subst (λ (c : Reply). Lasting (outcomeOf c)) e lasting in
       let reads = handed-sheet s (questionOf input (A at p) (length table) (length work)) (one .grammar) (one .accepts) in
       let shorter : Given s input (A at p) (one .answers .outcome) = record { grammar = one .grammar; reads = reads; has = one .answers .has } in
-      subst (λ (c : Reply). Repeats c b) (sym e) (countOf b, reply-again longer l shorter (one .answers .named) (one .answers .names))
+      let f = reply-again longer l shorter (one .answers .named) (one .answers .names) in
+      (ap outcomeOf e ∙ sym (ap outcomeOf f), ap namedOf e ∙ sym (ap namedOf f))
 
   -- The law of order 3 over results.
   pub answered-again : AnsweredAgain s input added A p

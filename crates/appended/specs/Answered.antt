@@ -9,17 +9,12 @@ use Rattle.schema.specs.Derivation.{_at_, Outcome}
 use Rattle.schema.specs.Handed.{handed, questionOf}
 use Rattle.schema.specs.Machine.{says, ran}
 use Rattle.schema.specs.Table.{cells}
-use Rattle.finish.specs.Reply.{Reply, reply, outcomeOf, told}
+use Rattle.finish.specs.Reply.{Reply, outcomeOf, SaysSame, told}
 use Rattle.finish.specs.declared.Answer.{Answer}
 use Rattle.memo.specs.Answer.{QuestionPromise}
 use Rattle.backtrack.specs.Run as run
 use Rattle.backtrack.specs.declared.Ending.{Ending}
 use Rattle.appended.specs.Appended.{Lasting}
-
--- The second reply says what the first says: the outcome, a success with its end, and the named pair. The count of decided cells is not promised,
--- nor is the table: the number of a pair's cell changes with n.
-abbrev pub Repeats : Reply → Reply → Type 0
-Repeats (reply o z count) b = (count′ : ℕ) × (b ≡ reply o z count′)
 
 -- Over results: the same sheet and the same pair A at p, on the input and on the input with bytes appended, with any slices.
 pub record AnsweredAgain (sheet input added : List ℕ) (A p : ℕ) : Type 0 where
@@ -28,10 +23,11 @@ pub record AnsweredAgain (sheet input added : List ℕ) (A p : ℕ) : Type 0 whe
   pub not-refused : (table work table₂ work₂ : ℕ) (g : Grammar) → handed sheet (questionOf input (A at p) table work) ≡ accepted g
       → length (input ++ added) ≤ 4096 → 2 * cells (g .variables) (length (input ++ added)) ≤ table₂ → cells (g .variables) (length (input ++ added)) ≤ work₂
       → handed sheet (questionOf (input ++ added) (A at p) table₂ work₂) ≡ accepted g
-  -- Where the engine replies to both, and the first outcome is not end, it says the same again.
+  -- Where the engine replies to both, and the first outcome is not end, it says the same again. The count of decided cells is not promised, nor is the
+  -- table: the number of a pair's cell changes with n.
   pub question-repeats : (table table′ work work′ : List ℕ) (r : Answer) → QuestionPromise sheet input A p table table′ work work′ r
       → (table₂ table₂′ work₂ work₂′ : List ℕ) (r₂ : Answer) → QuestionPromise sheet (input ++ added) A p table₂ table₂′ work₂ work₂′ r₂
-      → (a b : Reply) → told r ≡ accepted a → told r₂ ≡ accepted b → Lasting (outcomeOf a) → Repeats a b
+      → (a b : Reply) → told r ≡ accepted a → told r₂ ≡ accepted b → Lasting (outcomeOf a) → SaysSame a b
   -- What the machine names on the input, if it is not end, the engine answers on the longer one.
   pub run-repeats : (frames frames′ : List ℕ) (budget : ℕ) (r : Ending) → run.Runs sheet input (A at p) frames frames′ budget r
       → (table table′ work work′ : List ℕ) (r₂ : Answer) → QuestionPromise sheet (input ++ added) A p table table′ work work′ r₂

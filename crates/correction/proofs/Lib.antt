@@ -1,6 +1,12 @@
--- From the passes and the walk to the promise of a correction, and what any result that meets it says.
-pub mod CorrectionRefusals
+-- Why a correction and a further question keep their promises, and what follows.
 pub mod KeptRight
-pub mod Corrected
+pub mod Refusing
+pub mod Calling
+pub mod Starting
+pub mod Testing
 pub mod Asked
+pub mod AskedFurther
+pub mod Answered
 pub mod Promised
+pub mod PromisedFurther
+pub mod Shared

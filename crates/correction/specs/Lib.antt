@@ -1,3 +1,6 @@
--- One byte corrected: the refusals and the promise of the call.
+-- One byte corrected, and further questions: the refusals and the promises of the calls.
 pub mod Refusals
+pub mod Call
 pub mod Correction
+pub mod Further
+pub mod Shared

@@ -1,7 +1,7 @@
--- Document 02, order 4: the refusals of a correction, a question's and then 18 and 19. Assumes nothing.
+-- Document 02, orders 4, 6 and 8: the refusals of a correction and of a further question, a question's and then their own. Assumes nothing.
 use mathlib.Core.Bool.{Bool, false, cond, not}
 use mathlib.Core.List.{List, [], _∷_, _++_}
-use Prim.Native.Nat.{ℕ}
+use Prim.Native.Nat.{ℕ, _+_}
 use lib.Dec.{ltb, eqb}
 use lib.ListN.{length}
 use Rattle.grammar.specs.Order.{FirstHolds}
@@ -9,37 +9,67 @@ use Rattle.grammar.specs.Refusal.{Checked, checked, from}
 use Rattle.grammar.specs.Sheet.{Grammar, grammarOf}
 use Rattle.schema.specs.Derivation.{Pair}
 use Rattle.schema.specs.Handed.{handedCondition, handedOrder, questionOf}
-use Rattle.kept.specs.Range.{retainedOut}
+use Rattle.schema.specs.Table.{contents}
+use Rattle.kept.specs.Kept.{retained}
+use Rattle.kept.specs.Range.{cellsOut}
+
+-- ---- A call over a table that may hold anything.
+
+-- It is handed what a question is, with a table and a work slice of so many numbers, and tests more: `own` is the condition of its numbers from 18 on,
+-- and `order` is the order of these.
+module _ (sheet input : List ℕ) (x : Pair) (table work : ℕ) (own : Grammar → ℕ → ℕ → Bool) (order : List (ℕ × ℕ)) where
+  -- The condition of a refusal by its number, at a line: those below 18 are the question's.
+  unfoldable pub conditionOf : ℕ → ℕ → Bool
+  conditionOf = from 18 (own (grammarOf sheet)) (handedCondition sheet (questionOf input x table work))
+
+  -- The question's order, "after 10" its own.
+  unfoldable pub orderOf : List (ℕ × ℕ)
+  orderOf = handedOrder sheet ++ order
+
+  -- The first condition that holds is that of the number at the line.
+  abbrev pub Refuses : ℕ → ℕ → Type 0
+  Refuses number line = FirstHolds conditionOf orderOf number line
+
+  -- The grammar of the sheet that the call is handed, or its first refusal.
+  unfoldable pub callable : Checked Grammar
+  callable = checked conditionOf orderOf (grammarOf sheet)
+
+-- ---- The correction.
 
 -- "18 c not below n"
 abbrev pub correctedOut : ℕ → ℕ → Bool
 correctedOut n c = not (ltb c n)
 
 -- The condition of 18 and of 19, of the corrected input and the table before the call; neither has a line.
-unfoldable pub correctionCondition : Grammar → List ℕ → ℕ → List ℕ → ℕ → ℕ → Bool
-correctionCondition g input c table number line =
+unfoldable pub correctionCondition : List ℕ → ℕ → List ℕ → Grammar → ℕ → ℕ → Bool
+correctionCondition input c table g number line =
     cond (eqb number 18) (correctedOut (length input) c)
-    (cond (eqb number 19) (retainedOut (g .variables) (length input) c table)
+    (cond (eqb number 19) (cellsOut (g .variables) (length input) (retained (c + 1) (length input) table))
     false)
 
 -- "in that order after 10"
 abbrev pub correctionOrder : List (ℕ × ℕ)
 correctionOrder = (18, 0) ∷ (19, 0) ∷ []
 
--- A correction is handed what a question is, the position c and a table that may hold anything; `work` is the length of the work slice.
-module _ (sheet input : List ℕ) (x : Pair) (c : ℕ) (table : List ℕ) (work : ℕ) where
-  -- The condition of a refusal by its number, at a line: those below 18 are the question's.
-  unfoldable pub conditionOf : ℕ → ℕ → Bool
-  conditionOf = from 18 (correctionCondition (grammarOf sheet) input c table) (handedCondition sheet (questionOf input x (length table) work))
+-- ---- The further question.
 
-  -- The question's order, and then 18 and 19.
-  unfoldable pub orderOf : List (ℕ × ℕ)
-  orderOf = handedOrder sheet ++ correctionOrder
+-- The condition of 19, "over its first V times (n + 1) cells"; it has no line.
+unfoldable pub furtherCondition : List ℕ → List ℕ → Grammar → ℕ → ℕ → Bool
+furtherCondition input table g number line = cond (eqb number 19) (cellsOut (g .variables) (length input) (contents (length input) table)) false
 
-  -- The first condition that holds is that of the number at the line.
-  abbrev pub Refuses : ℕ → ℕ → Type 0
-  Refuses number line = FirstHolds conditionOf orderOf number line
+abbrev pub furtherOrder : List (ℕ × ℕ)
+furtherOrder = (19, 0) ∷ []
 
-  -- The grammar of the sheet that a correction is handed, or its first refusal.
-  unfoldable pub correctable : Checked Grammar
-  correctable = checked conditionOf orderOf (grammarOf sheet)
+-- ---- What each call is handed; `work` is the length of the work slice.
+
+abbrev pub correctable : List ℕ → List ℕ → Pair → ℕ → List ℕ → ℕ → Checked Grammar
+correctable sheet input x c table work = callable sheet input x (length table) work (correctionCondition input c table) correctionOrder
+
+abbrev pub CorrectionRefuses : List ℕ → List ℕ → Pair → ℕ → List ℕ → ℕ → ℕ → ℕ → Type 0
+CorrectionRefuses sheet input x c table work = Refuses sheet input x (length table) work (correctionCondition input c table) correctionOrder
+
+abbrev pub askable : List ℕ → List ℕ → Pair → List ℕ → ℕ → Checked Grammar
+askable sheet input x table work = callable sheet input x (length table) work (furtherCondition input table) furtherOrder
+
+abbrev pub FurtherRefuses : List ℕ → List ℕ → Pair → List ℕ → ℕ → ℕ → ℕ → Type 0
+FurtherRefuses sheet input x table work = Refuses sheet input x (length table) work (furtherCondition input table) furtherOrder

@@ -30,7 +30,7 @@ use Rattle.checker.specs.Checker as checker
 use Rattle.checker.specs.Checker.{Claimed, Checks, checkCondition, checkOrder}
 use Rattle.checker.specs.Proper.{Proper, Claims}
 use Rattle.checker.specs.declared.Claim.{Claim}
-use Rattle.demands.specs.Demands.{verdictTold, claimedOutcome, Demand3}
+use Rattle.demands.specs.Demands.{verdictTold, claimedOutcome, Demand3Question}
 use Rattle.demands.proofs.Demand1 as one
 use Rattle.demands.proofs.Demand2 as two
 use Rattle.demands.proofs.Demand3 as three
@@ -38,7 +38,7 @@ use Rattle.demands.proofs.Demand3 as three
 -- ---- Demand 1. "A caller may pass anything .., and the call ends: with an outcome, with the machine's spent or no frame, or with one numbered refusal
 -- under exactly the condition in document 01, its table and output then unchanged." That each call ends and meets its contract, whatever it is
 -- handed, is what the contracts say, which have no `requires`. For the exported calls: entryreader proofs/Demand1.antt and Opened.antt;
--- for the program's output: proofs/Output.antt; for the correction of document 02, here and in demand 3: proofs/Corrected.antt.
+-- for the program's output: proofs/Output.antt; for the correction and the further question of document 02, here and in demand 3: proofs/Kept.antt.
 
 -- The question.
 pub demand-1-question : (s input : List ℕ) (A p : ℕ) (table table′ work work′ : List ℕ) (r : Answer) → QuestionPromise s input A p table table′ work work′ r
@@ -131,5 +131,5 @@ demand-2-writer = two.written-passes
 -- ---- Demand 3. "Take any question (sheet, entry, variable, place) that the table engine does not refuse, whatever its table and work slice held before."
 pub demand-3 : (s input : List ℕ) (A p : ℕ) (table work table′ work′ : List ℕ) (r : Answer) → QuestionPromise s input A p table table′ work work′ r
     → (g : Grammar) → handed s (questionOf input (A at p) (length table) (length work)) ≡ accepted g
-    → (a : Reply) × (told r ≡ accepted a) × Demand3 s input (A at p) g table′ a
+    → (a : Reply) × (told r ≡ accepted a) × Demand3Question s input (A at p) g table′ a
 demand-3 = three.demand-3

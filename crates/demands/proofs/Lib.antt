@@ -3,6 +3,6 @@ pub mod Demand1
 pub mod Passing
 pub mod Demand2
 pub mod Demand3
-pub mod Corrected
+pub mod Kept
 pub mod Output
 pub mod Demands

@@ -1,3 +1,2 @@
 -- What the demands say of results that meet the calls' contracts.
 pub mod Demands
-pub mod Corrected

@@ -25,9 +25,11 @@ use Rattle.writer.proofs.Following.{write-follows}
 use Rattle.checker.specs.Checker.{checkCondition, checkOrder, check}
 use Rattle.checker.proofs.CheckRefusals.{check-refused-exactly}
 use Rattle.reports.specs.Numbers.{questionNumbers, writerNumbers, WriterNumbers, claimNumbers, CheckNumbers}
-use Rattle.correction.specs.Refusals as correction
+use Rattle.finish.specs.declared.Answer.{Answer}
+use Rattle.correction.specs.Refusals.{CorrectionRefuses, FurtherRefuses}
 use Rattle.correction.proofs.Promised as promised
-use Rattle.entryreader.specs.Codes.{sheetNumbers, SheetNumbers, Coded, codeOf, JudgeNumbers, QuestionNumbers, CorrectionNumbers}
+use Rattle.correction.proofs.PromisedFurther as further
+use Rattle.entryreader.specs.Codes.{sheetNumbers, SheetNumbers, Coded, codeOf, JudgeNumbers, AnswerNumbers, QuestionNumbers, CorrectionNumbers, FurtherNumbers}
 use Rattle.entryreader.proofs.Coded.{verdict-coded}
 
 -- A number that is 100 plus the number of a refusal, or small where nothing is refused.
@@ -210,24 +212,48 @@ module _ (s input : List ℕ) (A p : ℕ) (reading answer answer′ : List ℕ) 
   pub check-unchanged : r ≢ 0 → answer′ ≡ answer
   check-unchanged d = returned-unchanged (check s input (A at p) reading) claimNumbers answer answer′ r (promise .returns) (promise .reports) d .3
 
--- ---- The correction.
+-- ---- The correction and the further question.
+
+module _ {Promise : Answer → Type 0} {answer answer′ : List ℕ} {r : ℕ} (numbers : AnswerNumbers Promise answer answer′ r) {unchanged : Type 0}
+    (then-unchanged : (x l : ℕ) → told (numbers .found) ≡ refused x l → unchanged) where
+  -- Where such a call does not return 0, everything is as it was, the answer too.
+  answer-unchanged : r ≢ 0 → unchanged × (answer′ ≡ answer)
+  answer-unchanged d =
+      let e = returned-unchanged (told (numbers .found)) questionNumbers answer answer′ r (numbers .returns) (numbers .reports) d in
+      (then-unchanged (e .0) (e .1) (e .2), e .3)
 
 module _ (s input : List ℕ) (A p c : ℕ) (table table′ work work′ answer answer′ : List ℕ) (r : ℕ)
     (promise : CorrectionNumbers s input A p c table table′ work work′ answer answer′ r) where
-  correction-exactly : (x l : ℕ) → (told (promise .found) ≡ refused x l) ↔ correction.Refuses s input (A at p) c table (length work) x l
+  correction-exactly : (x l : ℕ) → (told (promise .found) ≡ refused x l) ↔ CorrectionRefuses s input (A at p) c table (length work) x l
   correction-exactly = promised.refused-exactly s input A p c table work table′ work′ (promise .found) (promise .promise)
 
   -- 100 plus x exactly under the condition of x,
-  pub correction-refused : (x : ℕ) → (r ≡ 100 + x) ↔ ((l : ℕ) × correction.Refuses s input (A at p) c table (length work) x l)
-  correction-refused = returned-refused (told (promise .found)) (correction.Refuses s input (A at p) c table (length work)) correction-exactly (promise .returns)
+  pub correction-refused : (x : ℕ) → (r ≡ 100 + x) ↔ ((l : ℕ) × CorrectionRefuses s input (A at p) c table (length work) x l)
+  correction-refused = returned-refused (told (promise .found)) (CorrectionRefuses s input (A at p) c table (length work)) correction-exactly (promise .returns)
 
   -- 0 else,
-  pub correction-answered : (r ≡ 0) ↔ ((x l : ℕ) → ¬ correction.Refuses s input (A at p) c table (length work) x l)
-  correction-answered = returned-answered (told (promise .found)) (correction.Refuses s input (A at p) c table (length work)) correction-exactly (promise .returns)
+  pub correction-answered : (r ≡ 0) ↔ ((x l : ℕ) → ¬ CorrectionRefuses s input (A at p) c table (length work) x l)
+  correction-answered = returned-answered (told (promise .found)) (CorrectionRefuses s input (A at p) c table (length work)) correction-exactly (promise .returns)
 
   -- and under a refusal table, work slice and answer are as they were.
   pub correction-unchanged : r ≢ 0 → (table′ ≡ table) × (work′ ≡ work) × (answer′ ≡ answer)
   correction-unchanged d =
-      let e = returned-unchanged (told (promise .found)) questionNumbers answer answer′ r (promise .returns) (promise .reports) d in
-      let k = promised.then-unchanged s input A p c table work table′ work′ (promise .found) (promise .promise) (e .0) (e .1) (e .2) in
-      (k .0, k .1, e .3)
+      let k = answer-unchanged promise (promised.then-unchanged s input A p c table work table′ work′ (promise .found) (promise .promise)) d in
+      (k .0 .0, k .0 .1, k .1)
+
+module _ (s input : List ℕ) (A p : ℕ) (table table′ work work′ answer answer′ : List ℕ) (r : ℕ)
+    (promise : FurtherNumbers s input A p table table′ work work′ answer answer′ r) where
+  further-exactly : (x l : ℕ) → (told (promise .found) ≡ refused x l) ↔ FurtherRefuses s input (A at p) table (length work) x l
+  further-exactly = further.refused-exactly s input A p table work table′ work′ (promise .found) (promise .promise)
+
+  -- The same of a further question.
+  pub further-refused : (x : ℕ) → (r ≡ 100 + x) ↔ ((l : ℕ) × FurtherRefuses s input (A at p) table (length work) x l)
+  further-refused = returned-refused (told (promise .found)) (FurtherRefuses s input (A at p) table (length work)) further-exactly (promise .returns)
+
+  pub further-answered : (r ≡ 0) ↔ ((x l : ℕ) → ¬ FurtherRefuses s input (A at p) table (length work) x l)
+  further-answered = returned-answered (told (promise .found)) (FurtherRefuses s input (A at p) table (length work)) further-exactly (promise .returns)
+
+  pub further-unchanged : r ≢ 0 → (table′ ≡ table) × (work′ ≡ work) × (answer′ ≡ answer)
+  further-unchanged d =
+      let k = answer-unchanged promise (further.then-unchanged s input A p table work table′ work′ (promise .found) (promise .promise)) d in
+      (k .0 .0, k .0 .1, k .1)

@@ -19,6 +19,7 @@ use Rattle.finish.specs.declared.Answer.{Answer}
 use Rattle.verdict.specs.Verdict.{numbers, VerdictPromise}
 use Rattle.verdict.specs.declared.Judgement.{Judgement}
 use Rattle.correction.specs.Correction.{CorrectionPromise}
+use Rattle.correction.specs.Further.{FurtherPromise}
 use Rattle.shorthand.specs.Promise.{told as compiles, CompilePromise}
 use Rattle.shorthand.specs.declared.Compiled.{Compiled}
 
@@ -58,23 +59,24 @@ pub record JudgeNumbers (sheet input table table′ work work′ answer′ : Lis
   pub returns : r ≡ 0
   pub reports : answer′ ≡ numbers found
 
--- ---- The question.
+-- ---- The question, the correction and the further question.
 
--- The call's promise: that of the question, with its answer in these numbers.
-pub record QuestionNumbers (sheet input : List ℕ) (A p : ℕ) (table table′ work work′ answer answer′ : List ℕ) (r : ℕ) : Type 0 where
+-- The promise of such a call, with its answer in the question's numbers.
+pub record AnswerNumbers (Promise : Answer → Type 0) (answer answer′ : List ℕ) (r : ℕ) : Type 0 where
   pub found : Answer
-  pub promise : QuestionPromise sheet input A p table table′ work work′ found
+  pub promise : Promise found
   pub returns : r ≡ returned (told found)
   pub reports : answer′ ≡ reported questionNumbers answer (told found)
 
--- ---- The correction.
+abbrev pub QuestionNumbers : List ℕ → List ℕ → ℕ → ℕ → List ℕ → List ℕ → List ℕ → List ℕ → List ℕ → List ℕ → ℕ → Type 0
+QuestionNumbers sheet input A p table table′ work work′ answer answer′ r = AnswerNumbers (QuestionPromise sheet input A p table table′ work work′) answer answer′ r
 
--- The call's promise: that of the correction, with its answer in the question's numbers; the count is of newly decided cells.
-pub record CorrectionNumbers (sheet input : List ℕ) (A p c : ℕ) (table table′ work work′ answer answer′ : List ℕ) (r : ℕ) : Type 0 where
-  pub found : Answer
-  pub promise : CorrectionPromise sheet input A p c table table′ work work′ found
-  pub returns : r ≡ returned (told found)
-  pub reports : answer′ ≡ reported questionNumbers answer (told found)
+-- Here the count is of newly decided cells.
+abbrev pub CorrectionNumbers : List ℕ → List ℕ → ℕ → ℕ → ℕ → List ℕ → List ℕ → List ℕ → List ℕ → List ℕ → List ℕ → ℕ → Type 0
+CorrectionNumbers sheet input A p c table table′ work work′ answer answer′ r = AnswerNumbers (CorrectionPromise sheet input A p c table table′ work work′) answer answer′ r
+
+abbrev pub FurtherNumbers : List ℕ → List ℕ → ℕ → ℕ → List ℕ → List ℕ → List ℕ → List ℕ → List ℕ → List ℕ → ℕ → Type 0
+FurtherNumbers sheet input A p table table′ work work′ answer answer′ r = AnswerNumbers (FurtherPromise sheet input A p table table′ work work′) answer answer′ r
 
 -- ---- The shorthand.
 

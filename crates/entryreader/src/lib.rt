@@ -7,7 +7,7 @@ ghost use Rattle.opening.specs.Opening.{told as opens};
 ghost use Rattle.shorthand.specs.Promise.{told};
 ghost use Rattle.verdict.specs.Verdict.{numbers};
 ghost use Rattle.reports.specs.Numbers.{WriterNumbers, CheckNumbers};
-ghost use Rattle.entryreader.specs.Codes.{sheetNumbers, SheetNumbers, codeOf, VerdictCode, JudgeNumbers, QuestionNumbers, CorrectionNumbers, lengthNumbers, ShorthandNumbers};
+ghost use Rattle.entryreader.specs.Codes.{sheetNumbers, SheetNumbers, codeOf, VerdictCode, JudgeNumbers, QuestionNumbers, CorrectionNumbers, FurtherNumbers, lengthNumbers, ShorthandNumbers};
 ghost use Rattle.entryreader.specs.Opened.{openingNumbers, OpeningNumbers};
 use grammar::sheet::Rules;
 use grammar::sheet::Sheet;
@@ -109,7 +109,7 @@ pub extern "C" fn entryreader_question(
     report(found, answer)
 }
 
-// A question about an input of which the byte at c was corrected, over the table that a question or a correction left of the input before: as the
+// A question about an input of which the byte at c was corrected, over a table that was kept of the input before: as the
 // question, with the count of newly decided cells.
 #[no_mangle]
 pub extern "C" fn entryreader_correct(
@@ -125,6 +125,24 @@ pub extern "C" fn entryreader_correct(
     ensures { λ r. ⌜ CorrectionNumbers (now (sheet .entry)) (now (input .entry)) variable position c (now (table .entry)) (now (table .exit)) (now (work .entry)) (now (work .exit)) (now (answer .entry)) (now (answer .exit)) r ⌝ }
 {
     let found = correction::correct(sheet, input, variable, position, c, table, work);
+    report(found, answer)
+}
+
+// A further question about the same input, over a table that was kept of it and of which nothing is blanked: as the question, with the count of newly
+// decided cells.
+#[no_mangle]
+pub extern "C" fn entryreader_further(
+    sheet: &[u8],
+    input: &[u8],
+    variable: u32,
+    position: u32,
+    table: &mut [u32],
+    work: &mut [u32],
+    answer: &mut [u32; 4],
+) -> u32
+    ensures { λ r. ⌜ FurtherNumbers (now (sheet .entry)) (now (input .entry)) variable position (now (table .entry)) (now (table .exit)) (now (work .entry)) (now (work .exit)) (now (answer .entry)) (now (answer .exit)) r ⌝ }
+{
+    let found = correction::further(sheet, input, variable, position, table, work);
     report(found, answer)
 }
 

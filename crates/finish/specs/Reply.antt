@@ -1,4 +1,5 @@
 -- Document 01, "The table engine": what a question is answered. Assumes nothing.
+use mathlib.Core.Path.{_≡_}
 use Prim.Native.Nat.{ℕ}
 use Rattle.grammar.specs.Refusal.{Checked, refused, accepted}
 use Rattle.schema.specs.Derivation.{Pair, _at_, success, failure, missing, end, Outcome, result, stopped, loop}
@@ -13,9 +14,17 @@ pub data Reply : Type 0 where
 abbrev pub outcomeOf : Reply → Outcome
 outcomeOf (reply o z count) = o
 
+-- The pair that it names.
+abbrev pub namedOf : Reply → Pair
+namedOf (reply o z count) = z
+
 -- Its count of decided cells.
 abbrev pub countOf : Reply → ℕ
 countOf (reply o z count) = count
+
+-- Two replies with one outcome, a success with the same end, and one named pair. Their counts may differ.
+abbrev pub SaysSame : Reply → Reply → Type 0
+SaysSame a b = (outcomeOf a ≡ outcomeOf b) × (namedOf a ≡ namedOf b)
 
 -- What each case of the answer says.
 abbrev pub told : Answer → Checked Reply

@@ -1,7 +1,7 @@
 -- The cells that are not blank after a question over a table, and those that it newly decides. Assumes nothing.
 use mathlib.Core.List.{List}
 use mathlib.Core.Logic.{_⊎_, inl, inr, _≢_, _↔_}
-use mathlib.Core.Path.{sym, _∙_, subst}
+use mathlib.Core.Path.{_≡_, sym, _∙_, subst}
 use Prim.Native.Nat.{ℕ, zero, suc, _+_, _≤_, _<_}
 use native.Mathlib.Decide.{ℕ-discrete}
 use lib.ListN.{length}
@@ -107,3 +107,15 @@ module _ (rule : ℕ → Rule) (s : List ℕ) (v : ℕ) {x : Pair} {start : Pair
     -- No more are new than there are cells.
     pub new-most : {c : ℕ} → Number (New rule s x start) c → c ≤ cells v (length s)
     new-most m = subst (λ (k : ℕ). k ≤ cells v n) (sym (number-one m new-number)) (count-le (new .1))
+
+    -- Over a blank table all that are reached are new.
+    pub new-all : ((A p : ℕ) → Within v (length s) A p → start (A at p) .0 ≡ 0) → {c : ℕ} → Number (New rule s x start) c → Number (Reached rule s x) c
+    new-all empty m = record {
+      pairs = m .pairs;
+      distinct = m .distinct;
+      exactly = λ y. (λ h. m .exactly y .0 h .0, λ r. m .exactly y .1 (r, blank-at y (reached-cell rule s v closed x within r .0)));
+      counted = m .counted;
+    }
+      where
+        blank-at : (y : Pair) → PairWithin v (length s) y → start y .0 ≡ 0
+        blank-at (A at p) w = empty A p w

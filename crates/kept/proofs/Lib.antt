@@ -3,3 +3,5 @@ pub mod Corrected
 pub mod RightCells
 pub mod Filled
 pub mod Ranged
+pub mod Either
+pub mod FirstCells

@@ -2,7 +2,7 @@
 use mathlib.Core.Bool.{Bool, true, false, not, _&&_, _||_, true≢false}
 use mathlib.Core.List.{List}
 use mathlib.Core.Logic.{_≢_}
-use mathlib.Core.Path.{_≡_, refl, sym, ap, _∙_}
+use mathlib.Core.Path.{_≡_, refl, sym, ap, ap₂, _∙_}
 use Prim.Native.Nat.{ℕ, zero, suc, _+_, _≤_, _<_}
 use native.Mathlib.Decide.{ℕ-discrete}
 use native.Mathlib.Numerals.{add-one}
@@ -14,11 +14,11 @@ use Rattle.grammar.specs.Rule.{Rule}
 use Rattle.grammar.proofs.Fitting.{neither-true}
 use Rattle.schema.specs.Derivation.{Pair, _at_, success, failure, missing, end, Outcome, result, stopped, loop, Has}
 use Rattle.schema.specs.Examined.{Reaches}
-use Rattle.schema.specs.Table.{Within, code}
+use Rattle.schema.specs.Table.{Within, code, contents}
 use Rattle.schema.proofs.Ends.{derives-ends}
 use Rattle.schema.proofs.Examined.{reach-bounds}
 use Rattle.kept.specs.Kept.{isResult, retained}
-use Rattle.kept.specs.Range.{outOfRange, some, retainedOut}
+use Rattle.kept.specs.Range.{outOfRange, some, cellsOut}
 use Rattle.kept.proofs.RightCells.{RightCells}
 
 -- ---- Some number below m.
@@ -44,6 +44,12 @@ some-each (suc m) test e i l =
 pub some-more : (m : ℕ) (test : ℕ → Bool) → some (m + 1) test ≡ (some m test || test m)
 unfolding some
 some-more m test = ap (λ (k : ℕ). some k test) (add-one m)
+
+-- tests that are the same everywhere give the same;
+pub some-same : (m : ℕ) (test other : ℕ → Bool) → ((i : ℕ) → test i ≡ other i) → some m test ≡ some m other
+unfolding some
+some-same zero test other same = refl
+some-same (suc m) test other same = ap₂ _||_ (some-same m test other same) (same m)
 
 -- where one passes, it is true.
 pub some-one : (m : ℕ) (test : ℕ → Bool) (i : ℕ) → i < m → test i ≡ true → some m test ≡ true
@@ -78,23 +84,37 @@ range-success n p q m l h r =
     by-test true = refl
     by-test false = refl
 
--- ---- A retained cell.
+-- ---- The cells that a call starts from.
 
-module _ (v n c : ℕ) (T : List ℕ) where
-  -- No retained cell is out of range exactly if refusal 19 does not hold.
-  pub none-out : ((A p : ℕ) → Within v n A p → outOfRange n p (retained c n T (A at p)) ≡ false) → retainedOut v n c T ≡ false
-  unfolding retainedOut
+module _ (v n : ℕ) (start : Pair → ℕ × ℕ) where
+  -- No cell is out of range exactly if refusal 19 does not hold.
+  pub none-out : ((A p : ℕ) → Within v n A p → outOfRange n p (start (A at p)) ≡ false) → cellsOut v n start ≡ false
+  unfolding cellsOut
   none-out each =
-      some-none v (λ i. some (n + 1) (λ p. outOfRange n p (retained c n T (suc i at p))))
-      (λ i l. some-none (n + 1) (λ p. outOfRange n p (retained c n T (suc i at p)))
+      some-none v (λ i. some (n + 1) (λ p. outOfRange n p (start (suc i at p))))
+      (λ i l. some-none (n + 1) (λ p. outOfRange n p (start (suc i at p)))
       (λ p m. each (suc i) p (record { variable = (omega arith, omega arith); position = omega arith })))
 
-  pub each-in : retainedOut v n c T ≡ false → (A p : ℕ) → Within v n A p → outOfRange n p (retained c n T (A at p)) ≡ false
-  unfolding retainedOut
+  pub each-in : cellsOut v n start ≡ false → (A p : ℕ) → Within v n A p → outOfRange n p (start (A at p)) ≡ false
+  unfolding cellsOut
   each-in e zero p w = absurd (omega (arith, w .variable .0))
   each-in e (suc i) p w =
-      some-each (n + 1) (λ p. outOfRange n p (retained c n T (suc i at p)))
-      (some-each v (λ i. some (n + 1) (λ p. outOfRange n p (retained c n T (suc i at p)))) e i (omega (arith, w .variable .1))) p (omega (arith, w .position))
+      some-each (n + 1) (λ p. outOfRange n p (start (suc i at p)))
+      (some-each v (λ i. some (n + 1) (λ p. outOfRange n p (start (suc i at p)))) e i (omega (arith, w .variable .1))) p (omega (arith, w .position))
+
+-- Cells that hold the same are out of range alike.
+pub out-same : (v n : ℕ) (start other : Pair → ℕ × ℕ) → ((y : Pair) → start y ≡ other y) → cellsOut v n start ≡ cellsOut v n other
+unfolding cellsOut
+out-same v n start other same =
+    some-same v (λ i. some (n + 1) (λ p. outOfRange n p (start (suc i at p)))) (λ i. some (n + 1) (λ p. outOfRange n p (other (suc i at p))))
+    (λ i. some-same (n + 1) (λ p. outOfRange n p (start (suc i at p))) (λ p. outOfRange n p (other (suc i at p))) (λ p. ap (outOfRange n p) (same (suc i at p))))
+
+-- Where nothing is blanked, all is retained.
+pub all-out : (v n : ℕ) (T : List ℕ) → cellsOut v n (retained 0 n T) ≡ cellsOut v n (contents n T)
+all-out v n T = out-same v n (retained 0 n T) (contents n T) all
+  where
+    all : (y : Pair) → retained 0 n T y ≡ contents n T y
+    all (A at p) = rw (le-ltb p 0 (omega arith))
 
 -- A right cell is in range.
 module _ (rule : ℕ → Rule) (v : ℕ) (s : List ℕ) where
@@ -114,3 +134,6 @@ module _ (rule : ℕ → Rule) (v : ℕ) (s : List ℕ) where
         let k = h .right A p w d in
         ap (λ (o : ℕ). outOfRange (length s) p (o, H (A at p) .1)) (k .2) ∙ outcome-in A p (H (A at p) .1) (k .0) (w .position) (k .1) (k .3)
   ]
+
+  pub none-right : {H : Pair → ℕ × ℕ} → RightCells rule v s H → cellsOut v (length s) H ≡ false
+  none-right {H} h = none-out v (length s) H (right-in h)

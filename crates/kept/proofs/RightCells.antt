@@ -24,7 +24,7 @@ use Rattle.schema.proofs.Examined.{examines-derives, examines-one, call-act}
 use Rattle.schema.proofs.Laws.{has-one}
 use Rattle.schema.proofs.Parts.{parts}
 use Rattle.kept.specs.Differs.{DiffersAt}
-use Rattle.kept.specs.Kept.{isResult, stays, retained, KeptTable, asked, corrected}
+use Rattle.kept.specs.Kept.{isResult, stays, retained, KeptTable, blank, asked, further, corrected}
 use Rattle.kept.proofs.Corrected.{Right, right-second, right-has, right-reaches, examined-before}
 
 -- The code of a result is that of no other outcome.
@@ -89,11 +89,11 @@ module _ (rule : ℕ → Rule) (v : ℕ) where
             second-within v (length s) C D p t (c .1) (c .2) (w .position) (ends-in p (length s) t (derives-ends rule s (w .position) (h .2)))
 
       -- Blank cells are right,
-      blank-right : RightCells s blanked
-      blank-right = record {
-        right = λ A p w d. absurd (d refl);
-        whole = λ A B C D p r w e a. absurd (code-full (result r) (sym e));
-        blank = λ A p w z. refl;
+      blank-right : {H : Pair → ℕ × ℕ} → ((A p : ℕ) → Within v (length s) A p → H (A at p) ≡ (0, 0)) → RightCells s H
+      blank-right z = record {
+        right = λ A p w d. absurd (d (ap (λ (k : ℕ × ℕ). k .0) (z A p w)));
+        whole = λ A B C D p r w e a. absurd (code-full (result r) (sym e ∙ ap (λ (k : ℕ × ℕ). k .0) (z A p w)));
+        blank = λ A p w e. ap (λ (k : ℕ × ℕ). k .1) (z A p w);
       }
 
       -- and so are cells that hold what right ones hold.
@@ -172,32 +172,34 @@ module _ (rule : ℕ → Rule) (v : ℕ) where
 
     module _ (s s′ : List ℕ) (c : ℕ) (d : DiffersAt c s s′) (O : List ℕ) where
       -- A cell that stays holds what it held,
-      retained-is : (A p : ℕ) → stays c p (contents (length s) O (A at p)) ≡ true → retained c (length s′) O (A at p) ≡ contents (length s) O (A at p)
+      retained-is : (A p : ℕ) → stays (c + 1) p (contents (length s) O (A at p)) ≡ true → retained (c + 1) (length s′) O (A at p) ≡ contents (length s) O (A at p)
       retained-is A p h = rw (d .size, h)
 
-      retained-stays : (A p : ℕ) → retained c (length s′) O (A at p) .0 ≢ 0 → stays c p (contents (length s) O (A at p)) ≡ true
-      retained-stays A p n = go (stays c p (contents (length s) O (A at p))) refl
+      retained-stays : (A p : ℕ) → retained (c + 1) (length s′) O (A at p) .0 ≢ 0 → stays (c + 1) p (contents (length s) O (A at p)) ≡ true
+      retained-stays A p n = go (stays (c + 1) p (contents (length s) O (A at p))) refl
         where
-          go : (b : Bool) → stays c p (contents (length s) O (A at p)) ≡ b → stays c p (contents (length s) O (A at p)) ≡ true
+          go : (b : Bool) → stays (c + 1) p (contents (length s) O (A at p)) ≡ b → stays (c + 1) p (contents (length s) O (A at p)) ≡ true
           go true h = h
           go false h = absurd (n (rw (d .size, h)))
 
       -- and it is right of c, or a result that looked at bytes before c only.
-      why-stays : (p : ℕ) (k : ℕ × ℕ) → stays c p k ≡ true → (c < p) ⊎ ((isResult (k .0) ≡ true) × (k .1 ≤ c))
-      why-stays p k h = go (ltb c p) (isResult (k .0)) (ltb c (k .1)) refl refl refl h
+      why-stays : (p : ℕ) (k : ℕ × ℕ) → stays (c + 1) p k ≡ true → (c < p) ⊎ ((isResult (k .0) ≡ true) × (k .1 ≤ c))
+      why-stays p k h = go (ltb p (c + 1)) (isResult (k .0)) (ltb (k .1) (c + 1)) refl refl refl h
         where
-          go : (x y z : Bool) → ltb c p ≡ x → isResult (k .0) ≡ y → ltb c (k .1) ≡ z → (x || (y && not z)) ≡ true → (c < p) ⊎ ((isResult (k .0) ≡ true) × (k .1 ≤ c))
-          go true y z e f g i = inl (ltb-true c p e)
-          go false true true e f g i = absurd (true≢false (sym i))
-          go false true false e f g i = inr (f, ltb-false c (k .1) g)
-          go false false z e f g i = absurd (true≢false (sym i))
+          go : (x y z : Bool) → ltb p (c + 1) ≡ x → isResult (k .0) ≡ y → ltb (k .1) (c + 1) ≡ z → (not x || (y && z)) ≡ true
+              → (c < p) ⊎ ((isResult (k .0) ≡ true) × (k .1 ≤ c))
+          go false y z e f g i = let l = ltb-false p (c + 1) e in inl (omega arith)
+          go true true true e f g i = let l = ltb-true (k .1) (c + 1) g in inr (f, omega arith)
+          go true true false e f g i = absurd (true≢false (sym i))
+          go true false z e f g i = absurd (true≢false (sym i))
 
-      above-stays : (p : ℕ) (k : ℕ × ℕ) → c < p → stays c p k ≡ true
-      above-stays p k l = rw (lt-ltb c p l)
+      above-stays : (p : ℕ) (k : ℕ × ℕ) → c < p → stays (c + 1) p k ≡ true
+      above-stays p k l = rw (le-ltb p (c + 1) (omega arith))
 
-      before-stays : (p m : ℕ) (r : Result) → m ≤ c → stays c p (code (result r), m) ≡ true
-      before-stays p m failure l = rw (le-ltb c m l) (or-true (ltb c p))
-      before-stays p m (success q) l = rw (le-ltb (5 + q) 5 (omega arith), ne-eqb (5 + q) 1 (λ e. omega arith), le-ltb c m l) (or-true (ltb c p))
+      before-stays : (p m : ℕ) (r : Result) → m ≤ c → stays (c + 1) p (code (result r), m) ≡ true
+      before-stays p m failure l = rw (lt-ltb m (c + 1) (omega arith)) (or-true (not (ltb p (c + 1))))
+      before-stays p m (success q) l =
+          rw (le-ltb (5 + q) 5 (omega arith), ne-eqb (5 + q) 1 (λ e. omega arith), lt-ltb m (c + 1) (omega arith)) (or-true (not (ltb p (c + 1))))
 
       within-old : {A p : ℕ} → Within v (length s′) A p → Within v (length s) A p
       within-old {A} {p} w = subst (λ (n : ℕ). Within v n A p) (d .size) w
@@ -208,33 +210,33 @@ module _ (rule : ℕ → Rule) (v : ℕ) where
         was y t w e = held-reaches s y t r w e
 
         -- A cell whose reach is at most c holds what it held.
-        before-is : (y : Pair) (t : Result) → held (length s) O y ≡ code (result t) → reach (length s) O y ≤ c → retained c (length s′) O y .0 ≡ code (result t)
+        before-is : (y : Pair) (t : Result) → held (length s) O y ≡ code (result t) → reach (length s) O y ≤ c → retained (c + 1) (length s′) O y .0 ≡ code (result t)
         before-is (A at p) t e l =
             ap (λ (k : ℕ × ℕ). k .0)
-            (retained-is A p (subst (λ (o : ℕ). stays c p (o, reach (length s) O (A at p)) ≡ true) (sym e) (before-stays p (reach (length s) O (A at p)) t l))) ∙ e
+            (retained-is A p (subst (λ (o : ℕ). stays (c + 1) p (o, reach (length s) O (A at p)) ≡ true) (sym e) (before-stays p (reach (length s) O (A at p)) t l))) ∙ e
 
-        above-is : (y : Pair) (t : Result) → c < positionOf y → held (length s) O y ≡ code (result t) → retained c (length s′) O y .0 ≡ code (result t)
+        above-is : (y : Pair) (t : Result) → c < positionOf y → held (length s) O y ≡ code (result t) → retained (c + 1) (length s′) O y .0 ≡ code (result t)
         above-is (A at p) t l e = ap (λ (k : ℕ × ℕ). k .0) (retained-is A p (above-stays p (contents (length s) O (A at p)) l)) ∙ e
 
-        right-retained : (A p : ℕ) → Within v (length s′) A p → retained c (length s′) O (A at p) .0 ≢ 0
-            → (o : Outcome) × Has rule s′ (A at p) o × (retained c (length s′) O (A at p) .0 ≡ code o) × Reaches rule s′ (A at p) o (retained c (length s′) O (A at p) .1)
+        right-retained : (A p : ℕ) → Within v (length s′) A p → retained (c + 1) (length s′) O (A at p) .0 ≢ 0
+            → (o : Outcome) × Has rule s′ (A at p) o × (retained (c + 1) (length s′) O (A at p) .0 ≡ code o) × Reaches rule s′ (A at p) o (retained (c + 1) (length s′) O (A at p) .1)
         right-retained A p w n = go (why-stays p (contents (length s) O (A at p)) h)
           where
-            h : stays c p (contents (length s) O (A at p)) ≡ true
+            h : stays (c + 1) p (contents (length s) O (A at p)) ≡ true
             h = retained-stays A p n
 
-            e : retained c (length s′) O (A at p) ≡ contents (length s) O (A at p)
+            e : retained (c + 1) (length s′) O (A at p) ≡ contents (length s) O (A at p)
             e = retained-is A p h
 
             k : (o : Outcome) × Has rule s (A at p) o × (held (length s) O (A at p) ≡ code o) × Reaches rule s (A at p) o (reach (length s) O (A at p))
             k = r .right A p (within-old w) (λ z. n (ap (λ (j : ℕ × ℕ). j .0) e ∙ z))
 
             kept-so : (o : Outcome) → Has rule s′ (A at p) o → held (length s) O (A at p) ≡ code o → Reaches rule s′ (A at p) o (reach (length s) O (A at p))
-                → (o : Outcome) × Has rule s′ (A at p) o × (retained c (length s′) O (A at p) .0 ≡ code o) × Reaches rule s′ (A at p) o (retained c (length s′) O (A at p) .1)
+                → (o : Outcome) × Has rule s′ (A at p) o × (retained (c + 1) (length s′) O (A at p) .0 ≡ code o) × Reaches rule s′ (A at p) o (retained (c + 1) (length s′) O (A at p) .1)
             kept-so o a b m = (o, a, ap (λ (j : ℕ × ℕ). j .0) e ∙ b, subst (λ (j : ℕ × ℕ). Reaches rule s′ (A at p) o (j .1)) (sym e) m)
 
             go : (c < p) ⊎ ((isResult (held (length s) O (A at p)) ≡ true) × (reach (length s) O (A at p) ≤ c))
-                → (o : Outcome) × Has rule s′ (A at p) o × (retained c (length s′) O (A at p) .0 ≡ code o) × Reaches rule s′ (A at p) o (retained c (length s′) O (A at p) .1)
+                → (o : Outcome) × Has rule s′ (A at p) o × (retained (c + 1) (length s′) O (A at p) .0 ≡ code o) × Reaches rule s′ (A at p) o (retained (c + 1) (length s′) O (A at p) .1)
             go (inl l) =
                 let i : Right rule s s′ c d (A at p) = record { above = l; inside = within-old w .position } in
                 kept-so (k .0) (right-has rule s s′ c d (A at p) (k .0) i (k .1)) (k .2) (right-reaches rule s s′ c d (A at p) (k .0) (reach (length s) O (A at p)) i (k .3))
@@ -244,11 +246,11 @@ module _ (rule : ℕ → Rule) (v : ℕ) where
                 kept-so (result (q .0)) (examines-derives rule s′ m) (k .2 ∙ ap code (q .1)) m
 
         -- What a pair with a retained result calls has its result there too: it is right of c, or its reach is no greater.
-        whole-retained : (A B C D p : ℕ) (q : Result) → Within v (length s′) A p → retained c (length s′) O (A at p) .0 ≡ code (result q) → act rule s′ (A at p) ≡ calls B C D
-            → (t : Result) × (retained c (length s′) O (B at p) .0 ≡ code (result t)) × (retained c (length s′) O (second C D p t) .0 ≡ code (result q))
+        whole-retained : (A B C D p : ℕ) (q : Result) → Within v (length s′) A p → retained (c + 1) (length s′) O (A at p) .0 ≡ code (result q) → act rule s′ (A at p) ≡ calls B C D
+            → (t : Result) × (retained (c + 1) (length s′) O (B at p) .0 ≡ code (result t)) × (retained (c + 1) (length s′) O (second C D p t) .0 ≡ code (result q))
         whole-retained A B C D p q w e a = go (why-stays p (contents (length s) O (A at p)) stay)
           where
-            stay : stays c p (contents (length s) O (A at p)) ≡ true
+            stay : stays (c + 1) p (contents (length s) O (A at p)) ≡ true
             stay = retained-stays A p (λ z. code-full (result q) (sym e ∙ z))
 
             b : act rule s (A at p) ≡ calls B C D
@@ -270,7 +272,7 @@ module _ (rule : ℕ → Rule) (v : ℕ) where
             g = was (second C D p (h .0)) q (second-in s u b (h .0) (f .0)) (h .2)
 
             go : (c < p) ⊎ ((isResult (held (length s) O (A at p)) ≡ true) × (reach (length s) O (A at p) ≤ c))
-                → (t : Result) × (retained c (length s′) O (B at p) .0 ≡ code (result t)) × (retained c (length s′) O (second C D p t) .0 ≡ code (result q))
+                → (t : Result) × (retained (c + 1) (length s′) O (B at p) .0 ≡ code (result t)) × (retained (c + 1) (length s′) O (second C D p t) .0 ≡ code (result q))
             go (inl l) =
                 let i = right-second rule s s′ c d C D p (h .0) l (u .position) (derives-ends rule s {x = B at p} {k = f .0 .0} {h = f .0 .1} (u .position) (f .0 .2)) in
                 (h .0, above-is (B at p) (h .0) l (h .1), above-is (second C D p (h .0)) q (i .above) (h .2))
@@ -279,14 +281,16 @@ module _ (rule : ℕ → Rule) (v : ℕ) where
                 let n = l .1 in
                 (h .0, before-is (B at p) (h .0) (h .1) (omega arith), before-is (second C D p (h .0)) q (h .2) (omega arith))
 
-        blank-retained : (A p : ℕ) → Within v (length s′) A p → retained c (length s′) O (A at p) .0 ≡ 0 → retained c (length s′) O (A at p) .1 ≡ 0
+        blank-retained : (A p : ℕ) → Within v (length s′) A p → retained (c + 1) (length s′) O (A at p) .0 ≡ 0 → retained (c + 1) (length s′) O (A at p) .1 ≡ 0
         blank-retained A p w =
-            rw (d .size) (kept-blank (stays c p (contents (length s) O (A at p))) (contents (length s) O (A at p)) (r .blank A p (within-old w)))
+            rw (d .size) (kept-blank (stays (c + 1) p (contents (length s) O (A at p))) (contents (length s) O (A at p)) (r .blank A p (within-old w)))
 
-        pub retain-right : RightCells s′ (retained c (length s′) O)
+        pub retain-right : RightCells s′ (retained (c + 1) (length s′) O)
         retain-right = record { right = right-retained; whole = whole-retained; blank = blank-retained }
 
     -- Every kept table is right.
     pub kept-right : {s T : List ℕ} → KeptTable rule v s T → RightCells s (contents (length s) T)
-    kept-right {s} (asked w t) = ask-right s (blank-right s) t
-    kept-right (corrected {s = s} {s′ = s′} {O = O} {c = c} w k d t) = ask-right s′ (retain-right s s′ c d O (kept-right k)) t
+    kept-right {s} (blank z) = blank-right s z
+    kept-right {s} (asked w t) = ask-right s (blank-right s (λ A p w. refl)) t
+    kept-right {s} (further w k t) = ask-right s (kept-right k) t
+    kept-right (corrected {s = s} {s′ = s′} {O = O} {c = c} w b k d t) = ask-right s′ (retain-right s s′ c d O (kept-right k)) t

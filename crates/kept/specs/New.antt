@@ -1,4 +1,4 @@
--- Document 02, order 4: the cells that a call newly decides. Assumes nothing.
+-- Document 02, orders 4 and 8: the cells that a call newly decides. Assumes nothing.
 use mathlib.Core.List.{List}
 use mathlib.Core.Path.{_≡_}
 use Prim.Native.Nat.{ℕ}

@@ -1,10 +1,9 @@
--- Document 02, orders 4 and 6: the condition of refusal 19. Assumes nothing.
+-- Document 02, orders 4, 6 and 8: the condition of refusal 19. Assumes nothing.
 use mathlib.Core.Bool.{Bool, false, not, _&&_, _||_}
-use mathlib.Core.List.{List}
 use Prim.Native.Nat.{ℕ, zero, suc, _+_}
 use lib.Dec.{ltb}
-use Rattle.schema.specs.Derivation.{_at_}
-use Rattle.kept.specs.Kept.{isResult, retained}
+use Rattle.schema.specs.Derivation.{Pair, _at_}
+use Rattle.kept.specs.Kept.{isResult}
 
 -- "over 5 + n or a success ending left of its place"; order 6: "19 also covers a success or failure whose reach is below its place": what a cell at
 -- the position p holds, on n bytes.
@@ -16,6 +15,7 @@ unfoldable pub some : ℕ → (ℕ → Bool) → Bool
 some zero test = false
 some (suc m) test = some m test || test m
 
--- "19 a retained cell ..": of v variables, at some position from 0 to n.
-unfoldable pub retainedOut : ℕ → ℕ → ℕ → List ℕ → Bool
-retainedOut v n c T = some v (λ i. some (n + 1) (λ p. outOfRange n p (retained c n T (suc i at p))))
+-- Some cell is out of range, of v variables, at some position from 0 to n. For a correction, "19 a retained cell ..", by what is retained; for a further
+-- question, "19, over its first V times (n + 1) cells", by what the table holds.
+unfoldable pub cellsOut : ℕ → ℕ → (Pair → ℕ × ℕ) → Bool
+cellsOut v n start = some v (λ i. some (n + 1) (λ p. outOfRange n p (start (suc i at p))))

@@ -1,4 +1,4 @@
--- The first pass: whether a retained cell is out of range, and from where on each row has something to blank. Assumes nothing.
+-- The first pass: whether a cell that stays is out of range, and from where on each row has something to blank. Assumes nothing.
 use mathlib.Core.Bool.{Bool, true, false, cond, not, _&&_, _||_, true≢false}
 use mathlib.Core.List.{List}
 use mathlib.Core.Logic.{_≢_}
@@ -16,7 +16,7 @@ use Rattle.schema.specs.Cells.{heldAt, reachAt, cellAt}
 use Rattle.schema.specs.Derivation.{_at_}
 use Rattle.schema.specs.Table.{cells}
 use Rattle.kept.specs.Kept.{stays, kept, retained}
-use Rattle.kept.specs.Range.{outOfRange, some, retainedOut}
+use Rattle.kept.specs.Range.{outOfRange, some, cellsOut}
 use Rattle.kept.proofs.Ranged.{some-none, some-one, some-more, range-low}
 use Rattle.passes.specs.Passes.{BlankIf, rowOut, Unchanged, Looked, Firsts, FirstsUnless}
 use Rattle.passes.proofs.Rows.{next-row}
@@ -24,16 +24,16 @@ use Rattle.passes.proofs.Rows.{next-row}
 -- ---- A cell.
 
 -- What is blank is blank where it stays, and where it does not.
-kept-blank : (c p : ℕ) → _≡_ {A = ℕ × ℕ} (kept c p (0, 0)) (0, 0)
-kept-blank c p = go (stays c p (0, 0))
+kept-blank : (limit p : ℕ) → _≡_ {A = ℕ × ℕ} (kept limit p (0, 0)) (0, 0)
+kept-blank limit p = go (stays limit p (0, 0))
   where
     go : (b : Bool) → _≡_ {A = ℕ × ℕ} (cond b (0, 0) (0, 0)) (0, 0)
     go true = refl
     go false = refl
 
 -- A cell counts where it stays.
-stays-kept : (n c p : ℕ) (k : ℕ × ℕ) → (stays c p k && outOfRange n p k) ≡ outOfRange n p (kept c p k)
-stays-kept n c p k = go (stays c p k)
+stays-kept : (n limit p : ℕ) (k : ℕ × ℕ) → (stays limit p k && outOfRange n p k) ≡ outOfRange n p (kept limit p k)
+stays-kept n limit p k = go (stays limit p k)
   where
     go : (b : Bool) → (b && outOfRange n p k) ≡ outOfRange n p (cond b k (0, 0))
     go true = refl
@@ -44,13 +44,13 @@ zeros : (a b : ℕ) → (eqb a 0 && eqb b 0) ≡ true → _≡_ {A = ℕ × ℕ}
 zeros a b = go (eqb a 0) (eqb b 0) refl refl
   where
     go : (x y : Bool) → eqb a 0 ≡ x → eqb b 0 ≡ y → (x && y) ≡ true → _≡_ {A = ℕ × ℕ} (a, b) (0, 0)
-    go true true e f h = ap₂ {C = ℕ × ℕ} (λ (c d : ℕ). (c, d)) (eqb-true a 0 e) (eqb-true b 0 f)
+    go true true e f h = ap₂ {C = ℕ × ℕ} (λ (x y : ℕ). (x, y)) (eqb-true a 0 e) (eqb-true b 0 f)
     go true false e f h = absurd (true≢false (sym h))
     go false y e f h = absurd (true≢false (sym h))
 
 -- A cell that stays or is blank is not changed.
-same-kept : (c p : ℕ) (k : ℕ × ℕ) → (not (stays c p k) && not (eqb (k .0) 0 && eqb (k .1) 0)) ≡ false → kept c p k ≡ k
-same-kept c p k = go (stays c p k) (eqb (k .0) 0 && eqb (k .1) 0) refl
+same-kept : (limit p : ℕ) (k : ℕ × ℕ) → (not (stays limit p k) && not (eqb (k .0) 0 && eqb (k .1) 0)) ≡ false → kept limit p k ≡ k
+same-kept limit p k = go (stays limit p k) (eqb (k .0) 0 && eqb (k .1) 0) refl
   where
     go : (x y : Bool) → (eqb (k .0) 0 && eqb (k .1) 0) ≡ y → (not x && not y) ≡ false → cond x k (0, 0) ≡ k
     go true y e h = refl
@@ -90,13 +90,13 @@ block-more T start i true true b e = λ j l. elim (ℕ-discrete j i) [
 
 -- ---- A row.
 
-module _ (n c : ℕ) (T : List ℕ) (start : ℕ) where
+module _ (n limit : ℕ) (T : List ℕ) (start : ℕ) where
   -- Whether a retained cell is out of range, by the cell at a position.
   abbrev outAt : ℕ → Bool
-  outAt p = outOfRange n p (kept c p (cellAt T (start + p)))
+  outAt p = outOfRange n p (kept limit p (cellAt T (start + p)))
 
   -- Before the first cell of a row.
-  pub look-begins : Looked n c T start 0 false (c + 1)
+  pub look-begins : Looked n limit T start 0 false (limit)
   look-begins = record { says = sym (some-none 0 outAt (λ p l. absurd (omega arith))); low = omega arith; unchanged = λ p l. absurd (omega arith) }
 
   -- A block of blank cells is skipped.
@@ -104,76 +104,76 @@ module _ (n c : ℕ) (T : List ℕ) (start : ℕ) where
     blank-at : (i : ℕ) → i < count → cellAt T (start + (from + i)) ≡ (0, 0)
     blank-at i l = let e : start + (from + i) ≡ start + from + i = omega arith in ap (cellAt T) e ∙ blank i l
 
-    blank-kept : (i : ℕ) → i < count → kept c (from + i) (cellAt T (start + (from + i))) ≡ (0, 0)
-    blank-kept i l = ap (kept c (from + i)) (blank-at i l) ∙ kept-blank c (from + i)
+    blank-kept : (i : ℕ) → i < count → kept limit (from + i) (cellAt T (start + (from + i))) ≡ (0, 0)
+    blank-kept i l = ap (kept limit (from + i)) (blank-at i l) ∙ kept-blank limit (from + i)
 
     blank-in : (i : ℕ) → i < count → outAt (from + i) ≡ false
     blank-in i l = ap (outOfRange n (from + i)) (blank-kept i l) ∙ range-low n (from + i) 0 0 (omega arith) (λ e. omega arith)
 
-    look-skips : {out : Bool} {first : ℕ} → Looked n c T start from out first → Looked n c T start (from + count) out first
+    look-skips : {out : Bool} {first : ℕ} → Looked n limit T start from out first → Looked n limit T start (from + count) out first
     look-skips {first = first} g = record {
       says = g .says ∙ sym (some-skip outAt from count blank-in);
       low = g .low;
       unchanged = λ p l m. by-test p (ltb p from) refl l m;
     }
       where
-        by-test : (p : ℕ) (b : Bool) → ltb p from ≡ b → p < from + count → p < first → kept c p (cellAt T (start + p)) ≡ cellAt T (start + p)
+        by-test : (p : ℕ) (b : Bool) → ltb p from ≡ b → p < from + count → p < first → kept limit p (cellAt T (start + p)) ≡ cellAt T (start + p)
         by-test p true h l m = g .unchanged p (ltb-true p from h) m
         by-test p false h l m =
             let a = ltb-false p from h in
             let e : p ≡ from + (p - from) = omega arith in
             let k : p - from < count = omega arith in
-            subst (λ (q : ℕ). kept c q (cellAt T (start + q)) ≡ cellAt T (start + q)) (sym e) (blank-kept (p - from) k ∙ sym (blank-at (p - from) k))
+            subst (λ (q : ℕ). kept limit q (cellAt T (start + q)) ≡ cellAt T (start + q)) (sym e) (blank-kept (p - from) k ∙ sym (blank-at (p - from) k))
 
-  pub look-over : (count : ℕ) {from first : ℕ} {out : Bool} (b : Bool) → not b ≡ false → BlankIf b T (start + from) count → Looked n c T start from out first
-      → Looked n c T start (from + count) out first
+  pub look-over : (count : ℕ) {from first : ℕ} {out : Bool} (b : Bool) → not b ≡ false → BlankIf b T (start + from) count → Looked n limit T start from out first
+      → Looked n limit T start (from + count) out first
   look-over count {from} true e blank g = look-skips from count blank g
   look-over count false e blank g = absurd (true≢false e)
 
   -- Before a cell of those from the position `from` on; `changes`: one of them does not hold what is retained.
   pub record Looking (from position : ℕ) (out changes : Bool) : Type 0 where
     pub past : from ≤ position
-    pub says : out ≡ rowOut n c T start position
-    pub unchanged : changes ≡ false → (p : ℕ) → from ≤ p → p < position → kept c p (cellAt T (start + p)) ≡ cellAt T (start + p)
+    pub says : out ≡ rowOut n limit T start position
+    pub unchanged : changes ≡ false → (p : ℕ) → from ≤ p → p < position → kept limit p (cellAt T (start + p)) ≡ cellAt T (start + p)
 
-  pub looking-begins : {from first : ℕ} {out : Bool} → Looked n c T start from out first → Looking from from out false
+  pub looking-begins : {from first : ℕ} {out : Bool} → Looked n limit T start from out first → Looking from from out false
   looking-begins g = record { past = omega arith; says = g .says; unchanged = λ e p l m. absurd (omega arith) }
 
   -- One cell more.
   pub looking-on : {from position : ℕ} {out changes : Bool} → Looking from position out changes → {stay far none : Bool}
-      → stay ≡ stays c position (cellAt T (start + position)) → far ≡ outOfRange n position (cellAt T (start + position))
+      → stay ≡ stays limit position (cellAt T (start + position)) → far ≡ outOfRange n position (cellAt T (start + position))
       → none ≡ (eqb (heldAt T (start + position)) 0 && eqb (reachAt T (start + position)) 0)
       → Looking from (position + 1) (out || (stay && far)) (changes || (not stay && not none))
   looking-on {from} {position} {out} {changes} g {stay} {far} {none} e f h = record {
     past = let l = g .past in omega arith;
-    says = ap₂ _||_ (g .says) (ap₂ _&&_ e f ∙ stays-kept n c position (cellAt T (start + position))) ∙ sym (some-more position outAt);
+    says = ap₂ _||_ (g .says) (ap₂ _&&_ e f ∙ stays-kept n limit position (cellAt T (start + position))) ∙ sym (some-more position outAt);
     unchanged = λ z p l m.
         let both = neither-true changes (not stay && not none) z in
         elim (ℕ-discrete p position) [
           | yes q ↦
-              subst (λ (a : ℕ). kept c a (cellAt T (start + a)) ≡ cellAt T (start + a)) (sym q)
-              (same-kept c position (cellAt T (start + position)) (ap₂ (λ (a b : Bool). not a && not b) (sym e) (sym h) ∙ both .1))
+              subst (λ (a : ℕ). kept limit a (cellAt T (start + a)) ≡ cellAt T (start + a)) (sym q)
+              (same-kept limit position (cellAt T (start + position)) (ap₂ (λ (a b : Bool). not a && not b) (sym e) (sym h) ∙ both .1))
           | no d ↦ g .unchanged (both .0) p l (omega arith)
         ];
   }
 
   -- After the last of them: where one is changed before the position that was found, the position is theirs;
-  module _ {from to first : ℕ} {before out changes : Bool} (g : Looked n c T start from before first) (h : Looking from to out changes) where
-    pub look-changes : (changes && ltb from first) ≡ true → Looked n c T start to out from
+  module _ {from to first : ℕ} {before out changes : Bool} (g : Looked n limit T start from before first) (h : Looking from to out changes) where
+    pub look-changes : (changes && ltb from first) ≡ true → Looked n limit T start to out from
     look-changes e =
         let l : from < first = ltb-true from first (right-true changes (ltb from first) e) in
         record { says = h .says; low = let k = g .low in omega arith; unchanged = λ p a b. g .unchanged p b (omega arith) }
 
     -- else it stays.
-    pub look-stays : (changes && ltb from first) ≡ false → Looked n c T start to out first
+    pub look-stays : (changes && ltb from first) ≡ false → Looked n limit T start to out first
     look-stays e = record { says = h .says; low = g .low; unchanged = go changes (ltb from first) refl refl e }
       where
-        go : (x y : Bool) → changes ≡ x → ltb from first ≡ y → (x && y) ≡ false → (p : ℕ) → p < to → p < first → kept c p (cellAt T (start + p)) ≡ cellAt T (start + p)
+        go : (x y : Bool) → changes ≡ x → ltb from first ≡ y → (x && y) ≡ false → (p : ℕ) → p < to → p < first → kept limit p (cellAt T (start + p)) ≡ cellAt T (start + p)
         go true true a b k p l m = absurd (true≢false k)
         go true false a b k p l m = let i = ltb-false from first b in g .unchanged p (omega arith) m
         go false y a b k p l m = by-test (ltb p from) refl
           where
-            by-test : (z : Bool) → ltb p from ≡ z → kept c p (cellAt T (start + p)) ≡ cellAt T (start + p)
+            by-test : (z : Bool) → ltb p from ≡ z → kept limit p (cellAt T (start + p)) ≡ cellAt T (start + p)
             by-test true i = g .unchanged p (ltb-true p from i) m
             by-test false i = h .unchanged a p (ltb-false p from i) l
 
@@ -181,23 +181,23 @@ module _ (n c : ℕ) (T : List ℕ) (start : ℕ) where
 
 -- A row by its pairs: a retained cell of the variable after so many rows is out of range.
 abbrev variableOut : ℕ → ℕ → List ℕ → ℕ → Bool
-variableOut n c T i = some (n + 1) (λ p. outOfRange n p (retained c n T (suc i at p)))
+variableOut n limit T i = some (n + 1) (λ p. outOfRange n p (retained limit n T (suc i at p)))
 
-variable-row : (n c : ℕ) (T : List ℕ) (i : ℕ) → variableOut n c T i ≡ rowOut n c T (cells i n) (n + 1)
-variable-row n c T i =
+variable-row : (n limit : ℕ) (T : List ℕ) (i : ℕ) → variableOut n limit T i ≡ rowOut n limit T (cells i n) (n + 1)
+variable-row n limit T i =
     let e : suc i - 1 ≡ i = omega arith in
-    ap (λ (a : ℕ). some (n + 1) (λ p. outOfRange n p (kept c p (cellAt T (a * (n + 1) + p))))) e
+    ap (λ (a : ℕ). some (n + 1) (λ p. outOfRange n p (kept limit p (cellAt T (a * (n + 1) + p))))) e
 
 -- Before a row that begins at a number: no row before it has a retained cell out of range, and the first position of each is noted.
-pub record RowsPassing (v n c : ℕ) (T firsts : List ℕ) (row start : ℕ) : Type 0 where
+pub record RowsPassing (v n limit : ℕ) (T firsts : List ℕ) (row start : ℕ) : Type 0 where
   pub inside : row ≤ v
   pub begins : start ≡ cells row n
-  pub each : (i : ℕ) → i < row → some (n + 1) (λ p. outOfRange n p (retained c n T (suc i at p))) ≡ false
-  pub noted : Firsts row n c T firsts
+  pub each : (i : ℕ) → i < row → some (n + 1) (λ p. outOfRange n p (retained limit n T (suc i at p))) ≡ false
+  pub noted : Firsts row n limit T firsts
   pub room : length firsts ≡ 256
 
-module _ (v n c : ℕ) (T : List ℕ) where
-  pub rows-begin : {firsts : List ℕ} → length firsts ≡ 256 → RowsPassing v n c T firsts 0 0
+module _ (v n limit : ℕ) (T : List ℕ) where
+  pub rows-begin : {firsts : List ℕ} → length firsts ≡ 256 → RowsPassing v n limit T firsts 0 0
   rows-begin e = record {
     inside = omega arith;
     begins = sym (zero-mul (n + 1));
@@ -206,9 +206,9 @@ module _ (v n c : ℕ) (T : List ℕ) where
     room = e;
   }
 
-  module _ {firsts : List ℕ} {row start : ℕ} (passing : RowsPassing v n c T firsts row start) {out : Bool} {first : ℕ} (found : Looked n c T start (n + 1) out first) where
-    this-row-is : {b : Bool} → out ≡ b → variableOut n c T row ≡ b
-    this-row-is e = variable-row n c T row ∙ ap (λ (i : ℕ). rowOut n c T i (n + 1)) (sym (passing .begins)) ∙ sym (found .says) ∙ e
+  module _ {firsts : List ℕ} {row start : ℕ} (passing : RowsPassing v n limit T firsts row start) {out : Bool} {first : ℕ} (found : Looked n limit T start (n + 1) out first) where
+    this-row-is : {b : Bool} → out ≡ b → variableOut n limit T row ≡ b
+    this-row-is e = variable-row n limit T row ∙ ap (λ (i : ℕ). rowOut n limit T i (n + 1)) (sym (passing .begins)) ∙ sym (found .says) ∙ e
 
     -- The first position of this row is noted, and the others stay.
     first-here : row < length firsts → getD (set firsts row first) row 0 ≡ first
@@ -217,53 +217,53 @@ module _ (v n c : ℕ) (T : List ℕ) where
     first-there : (i : ℕ) → i ≢ row → getD (set firsts row first) i 0 ≡ getD firsts i 0
     first-there i d = getD-set-other firsts row i first 0 d
 
-    unchanged-here : c < n → Unchanged c T (cells row n) first
-    unchanged-here l p m = let h = found .low in subst (λ (i : ℕ). kept c p (cellAt T (i + p)) ≡ cellAt T (i + p)) (passing .begins) (found .unchanged p (omega arith) m)
+    unchanged-here : limit ≤ n → Unchanged limit T (cells row n) first
+    unchanged-here l p m = let h = found .low in subst (λ (i : ℕ). kept limit p (cellAt T (i + p)) ≡ cellAt T (i + p)) (passing .begins) (found .unchanged p (omega arith) m)
 
-    noted-more : c < n → row < 256 → Firsts (row + 1) n c T (set firsts row first)
+    noted-more : limit ≤ n → row < 256 → Firsts (row + 1) n limit T (set firsts row first)
     noted-more l m = record {
       low = λ i h. elim (ℕ-discrete i row) [
-        | yes z ↦ subst (λ (k : ℕ). k ≤ c + 1) (sym (ap (λ (k : ℕ). getD (set firsts row first) k 0) z ∙ first-here here)) (found .low)
-        | no d ↦ subst (λ (k : ℕ). k ≤ c + 1) (sym (first-there i d)) (passing .noted .low i (omega arith))
+        | yes z ↦ subst (λ (k : ℕ). k ≤ limit) (sym (ap (λ (k : ℕ). getD (set firsts row first) k 0) z ∙ first-here here)) (found .low)
+        | no d ↦ subst (λ (k : ℕ). k ≤ limit) (sym (first-there i d)) (passing .noted .low i (omega arith))
       ];
       unchanged = λ i h. elim (ℕ-discrete i row) [
         | yes z ↦
-            subst (λ (k : ℕ). Unchanged c T (cells k n) (getD (set firsts row first) k 0)) (sym z)
-            (subst (Unchanged c T (cells row n)) (sym (first-here here)) (unchanged-here l))
-        | no d ↦ subst (Unchanged c T (cells i n)) (sym (first-there i d)) (passing .noted .unchanged i (omega arith))
+            subst (λ (k : ℕ). Unchanged limit T (cells k n) (getD (set firsts row first) k 0)) (sym z)
+            (subst (Unchanged limit T (cells row n)) (sym (first-here here)) (unchanged-here l))
+        | no d ↦ subst (Unchanged limit T (cells i n)) (sym (first-there i d)) (passing .noted .unchanged i (omega arith))
       ];
     }
       where
         here : row < length firsts
         here = let e = passing .room in omega arith
 
-    pub rows-go-on : c < n → v ≤ 256 → row < v → out ≡ false → RowsPassing v n c T (set firsts row first) (row + 1) (start + (n + 1))
+    pub rows-go-on : limit ≤ n → v ≤ 256 → row < v → out ≡ false → RowsPassing v n limit T (set firsts row first) (row + 1) (start + (n + 1))
     rows-go-on k few l e = record {
       inside = omega arith;
       begins = ap (λ (k : ℕ). k + (n + 1)) (passing .begins) ∙ sym (next-row row n);
       each = λ i m. elim (ℕ-discrete i row) [
-        | yes z ↦ ap (variableOut n c T) z ∙ this-row-is e
+        | yes z ↦ ap (variableOut n limit T) z ∙ this-row-is e
         | no d ↦ passing .each i (omega arith)
       ];
       noted = noted-more k (omega arith);
       room = length-set firsts row first ∙ passing .room;
     }
 
-    pub rows-out : row < v → out ≡ true → retainedOut v n c T ≡ true
-    unfolding retainedOut
-    rows-out l e = some-one v (variableOut n c T) row l (this-row-is e)
+    pub rows-out : row < v → out ≡ true → cellsOut v n (retained limit n T) ≡ true
+    unfolding cellsOut
+    rows-out l e = some-one v (variableOut n limit T) row l (this-row-is e)
 
-  pub rows-in : {firsts : List ℕ} {row start : ℕ} → RowsPassing v n c T firsts row start → v ≤ row → retainedOut v n c T ≡ false
-  unfolding retainedOut
-  rows-in passing l = some-none v (variableOut n c T) (λ i m. passing .each i (omega arith))
+  pub rows-in : {firsts : List ℕ} {row start : ℕ} → RowsPassing v n limit T firsts row start → v ≤ row → cellsOut v n (retained limit n T) ≡ false
+  unfolding cellsOut
+  rows-in passing l = some-none v (variableOut n limit T) (λ i m. passing .each i (omega arith))
 
-  pub rows-noted : {firsts : List ℕ} {row start : ℕ} → RowsPassing v n c T firsts row start → v ≤ row → Firsts v n c T firsts
+  pub rows-noted : {firsts : List ℕ} {row start : ℕ} → RowsPassing v n limit T firsts row start → v ≤ row → Firsts v n limit T firsts
   rows-noted {firsts} {row} passing l =
       let m = passing .inside in
       let e : row ≡ v = omega arith in
-      subst (λ (k : ℕ). Firsts k n c T firsts) e (passing .noted)
+      subst (λ (k : ℕ). Firsts k n limit T firsts) e (passing .noted)
 
 -- They are noted where no retained cell is out of range.
-pub noted-unless : (out : Bool) {v n c : ℕ} {T firsts : List ℕ} → not out ≡ true → FirstsUnless out v n c T firsts → Firsts v n c T firsts
+pub noted-unless : (out : Bool) {v n limit : ℕ} {T firsts : List ℕ} → not out ≡ true → FirstsUnless out v n limit T firsts → Firsts v n limit T firsts
 noted-unless true e f = absurd (true≢false (sym e))
 noted-unless false e f = f

@@ -1,15 +1,17 @@
-// What a correction does to the cells of a table before it asks, in two passes, row by row: whether a retained cell is out of range, and blanking what
-// does not stay. On sheets as societies write them nearly all cells are blank: the first pass skips them in blocks, and notes for each row from where on
-// the second has something to blank.
+// What a call does to the cells of a table before it asks over them, row by row: whether a cell that stays is out of range, and, for a correction,
+// blanking what does not stay. Cells at positions below a limit are blanked: up to the corrected byte for a correction, none for a further question. On
+// sheets as societies write them nearly all cells are blank: the first pass skips them in blocks, and notes for each row from where on the second has
+// something to blank.
 ghost use mathlib.Core.Bool.{cond, _&&_};
 ghost use mathlib.Core.Path.{_≡_};
-ghost use Prim.Native.Nat.{_+_, _≤_, _<_};
+ghost use Prim.Native.Nat.{_+_, _*_, _≤_};
 ghost use lib.Dec.{eqb};
 ghost use lib.ListN.{length};
 ghost use Rattle.schema.specs.Cells.{cellAt, stored, HasCell};
-ghost use Rattle.kept.specs.Kept.{isResult, looksBefore};
-ghost use Rattle.kept.specs.Range.{outOfRange, retainedOut};
-ghost use Rattle.passes.specs.Passes.{PassReady, BlankIf, Looked, FirstsUnless, Firsts, Unchanged, Keeps, Retains, RetainsUnless};
+ghost use Rattle.schema.specs.Table.{contents};
+ghost use Rattle.kept.specs.Kept.{isResult, looksBelow, retained};
+ghost use Rattle.kept.specs.Range.{outOfRange, cellsOut};
+ghost use Rattle.passes.specs.Passes.{PassReady, BlankIf, Looked, FirstsUnless, Firsts, Unchanged, Keeps, Starts, StartsUnless};
 use cells::Cell;
 
 // How many cells are skipped at once.
@@ -38,11 +40,11 @@ fn is_blank(cell: Cell) -> bool
     (cell.0 == Cell::BLANK.0) & (cell.1 == Cell::BLANK.1)
 }
 
-// Does this cell hold a result that looked at bytes before c only?
-fn looks_before(cell: Cell, c: u32) -> bool
-    ensures { λ r. ⌜ r ≡ looksBefore c (cell .0, cell .1) ⌝ }
+// Does this cell hold a result whose reach is below the limit?
+fn looks_below(cell: Cell, limit: u32) -> bool
+    ensures { λ r. ⌜ r ≡ looksBelow limit (cell .0, cell .1) ⌝ }
 {
-    is_result(cell) & !(c < cell.1)
+    is_result(cell) & (cell.1 < limit)
 }
 
 // Is what a cell at a position holds over 5 + n, or that of a success ending left of it, or that of a result that reaches less than it?
@@ -70,17 +72,25 @@ fn block_blank(table: &[u32], start: usize) -> bool
 }
 
 // Looks at the cells of a row from one position to another, with what was found before them. The row begins at a number. There is no branch in the loop
-// and c has 32 bits, so that the compiler tests several cells at once.
-fn look(table: &[u32], start: usize, from: usize, to: usize, n: usize, c: u32, before: Row) -> Row
-    requires { ⌜ (n ≤ 4096) × (c < n) × (from ≤ to) × (to ≤ n + 1) × HasCell (now table) (start + n) × Looked n c (now table) start from (before .out) (before .first) ⌝ }
-    ensures { λ r. ⌜ Looked n c (now (table .entry)) start to (r .out) (r .first) ⌝ }
+// and the limit has 32 bits, so that the compiler tests several cells at once.
+fn look(
+    table: &[u32],
+    start: usize,
+    from: usize,
+    to: usize,
+    n: usize,
+    limit: u32,
+    before: Row,
+) -> Row
+    requires { ⌜ (n ≤ 4096) × (limit ≤ n) × (from ≤ to) × (to ≤ n + 1) × HasCell (now table) (start + n) × Looked n limit (now table) start from (before .out) (before .first) ⌝ }
+    ensures { λ r. ⌜ Looked n limit (now (table .entry)) start to (r .out) (r .first) ⌝ }
 {
     let mut out = before.out;
     let mut changes = false;
     let mut position = from;
     while position < to {
         let cell = Cell::load(table, start + position);
-        let stays = (c < position as u32) | looks_before(cell, c);
+        let stays = !((position as u32) < limit) | looks_below(cell, limit);
         out = out | (stays & out_of_range(cell, position as u32, n as u32));
         changes = changes | (!stays & !is_blank(cell));
         position += 1;
@@ -98,40 +108,40 @@ fn look(table: &[u32], start: usize, from: usize, to: usize, n: usize, c: u32, b
 }
 
 // Looks at a row, which begins at a number.
-fn look_row(table: &[u32], start: usize, n: usize, c: u32) -> Row
-    requires { ⌜ (n ≤ 4096) × (c < n) × HasCell (now table) (start + n) ⌝ }
-    ensures { λ r. ⌜ Looked n c (now (table .entry)) start (n + 1) (r .out) (r .first) ⌝ }
+fn look_row(table: &[u32], start: usize, n: usize, limit: u32) -> Row
+    requires { ⌜ (n ≤ 4096) × (limit ≤ n) × HasCell (now table) (start + n) ⌝ }
+    ensures { λ r. ⌜ Looked n limit (now (table .entry)) start (n + 1) (r .out) (r .first) ⌝ }
 {
     let mut row = Row {
         out: false,
-        first: c + 1,
+        first: limit,
     };
     let mut at: usize = 0;
     while at + BLOCK <= n + 1 {
         if !block_blank(table, start + at) {
-            row = look(table, start, at, at + BLOCK, n, c, row);
+            row = look(table, start, at, at + BLOCK, n, limit, row);
         }
         at += BLOCK;
     }
-    look(table, start, at, n + 1, n, c, row)
+    look(table, start, at, n + 1, n, limit, row)
 }
 
-// Refusal 19: is a retained cell of the table out of range? If none is, each row's first position is noted.
+// Refusal 19: is a cell that stays out of range? If none is, each row's first position is noted.
 fn retained_out(
     table: &[u32],
     variables: u32,
     n: usize,
-    c: u32,
+    limit: u32,
     firsts: &mut FirstPositions,
 ) -> bool
-    requires { ⌜ PassReady variables n c (now table) × (length (now firsts) ≡ 256) ⌝ }
-    ensures refuses { λ r. ⌜ r ≡ retainedOut variables n c (now (table .entry)) ⌝ }
-    ensures notes { λ r. ⌜ FirstsUnless r variables n c (now (table .entry)) (now (firsts .exit)) ⌝ }
+    requires { ⌜ PassReady variables n limit (now table) × (length (now firsts) ≡ 256) ⌝ }
+    ensures refuses { λ r. ⌜ r ≡ cellsOut variables n (retained limit n (now (table .entry))) ⌝ }
+    ensures notes { λ r. ⌜ FirstsUnless r variables n limit (now (table .entry)) (now (firsts .exit)) ⌝ }
 {
     let mut row: u32 = 0;
     let mut start: usize = 0;
     while row < variables {
-        let found = look_row(table, start, n, c);
+        let found = look_row(table, start, n, limit);
         if found.out {
             return true;
         }
@@ -142,62 +152,71 @@ fn retained_out(
     false
 }
 
-// The cell, blank unless it holds a result that looked at bytes before c only.
-fn kept_cell(cell: Cell, c: u32) -> Cell
-    ensures { λ r. ⌜ (r .0 ≡ cond (looksBefore c (cell .0, cell .1)) (cell .0) 0) × (r .1 ≡ cond (looksBefore c (cell .0, cell .1)) (cell .1) 0) ⌝ }
+// Refusal 19 of a call that blanks nothing: is any cell out of range?
+pub fn cells_out(table: &[u32], variables: u32, n: usize) -> bool
+    requires { ⌜ PassReady variables n 0 (now table) ⌝ }
+    ensures { λ r. ⌜ r ≡ cellsOut variables n (contents n (now (table .entry))) ⌝ }
 {
-    if looks_before(cell, c) {
+    let mut firsts: FirstPositions = [0u32; 256];
+    retained_out(table, variables, n, 0, &mut firsts)
+}
+
+// The cell, blank unless it holds a result whose reach is below the limit.
+fn kept_cell(cell: Cell, limit: u32) -> Cell
+    ensures { λ r. ⌜ (r .0 ≡ cond (looksBelow limit (cell .0, cell .1)) (cell .0) 0) × (r .1 ≡ cond (looksBelow limit (cell .0, cell .1)) (cell .1) 0) ⌝ }
+{
+    if looks_below(cell, limit) {
         return cell;
     }
     Cell::BLANK
 }
 
-// Blanks a cell, unless it holds a result that looked at bytes before c only. It is stored again in any case: of the choice between the two the compiler
+// Blanks a cell, unless it holds a result whose reach is below the limit. It is stored again in any case: of the choice between the two the compiler
 // then makes no branch, and goes through a row several cells at once.
-fn retain_cell(table: &mut [u32], index: usize, c: u32)
+fn retain_cell(table: &mut [u32], index: usize, limit: u32)
     requires { ⌜ HasCell (now table) index ⌝ }
-    ensures { λ _. let k = cellAt (now (table .entry)) index in ⌜ now (table .exit) ≡ stored (now (table .entry)) index (cond (looksBefore c k) (k .0) 0) (cond (looksBefore c k) (k .1) 0) ⌝ }
+    ensures { λ _. let k = cellAt (now (table .entry)) index in ⌜ now (table .exit) ≡ stored (now (table .entry)) index (cond (looksBelow limit k) (k .0) 0) (cond (looksBelow limit k) (k .1) 0) ⌝ }
 {
-    kept_cell(Cell::load(table, index), c).store(table, index);
+    kept_cell(Cell::load(table, index), limit).store(table, index);
 }
 
-// The cells of a row, which begins at a number, at positions from the first that may change up to c.
-fn retain_row(table: &mut [u32], start: usize, first: u32, c: u32)
-    requires { ⌜ (c ≤ 4096) × (first ≤ c + 1) × HasCell (now table) (start + c) × Unchanged c (now table) start first ⌝ }
-    ensures { λ _. ⌜ Keeps c start (c + 1) (now (table .entry)) (now (table .exit)) ⌝ }
+// The cells of a row, which begins at a number, at positions from the first that may change up to the limit.
+fn retain_row(table: &mut [u32], start: usize, first: u32, limit: u32)
+    requires { ⌜ (first ≤ limit) × (2 * (start + limit) ≤ length (now table)) × Unchanged limit (now table) start first ⌝ }
+    ensures { λ _. ⌜ Keeps limit start limit (now (table .entry)) (now (table .exit)) ⌝ }
 {
     let mut at = first as usize;
-    while at <= c as usize {
-        retain_cell(table, start + at, c);
+    while at < limit as usize {
+        retain_cell(table, start + at, limit);
         at += 1;
     }
 }
 
 // Blanks the cells that do not stay, and leaves the others.
-fn retain_rows(table: &mut [u32], variables: u32, n: usize, c: u32, firsts: &FirstPositions)
-    requires { ⌜ PassReady variables n c (now table) × Firsts variables n c (now table) (now firsts) ⌝ }
-    ensures { λ _. ⌜ Retains variables n c (now (table .entry)) (now (table .exit)) ⌝ }
+fn retain_rows(table: &mut [u32], variables: u32, n: usize, limit: u32, firsts: &FirstPositions)
+    requires { ⌜ PassReady variables n limit (now table) × Firsts variables n limit (now table) (now firsts) ⌝ }
+    ensures { λ _. ⌜ Starts variables n (retained limit n (now (table .entry))) (now (table .entry)) (now (table .exit)) ⌝ }
 {
     let mut retained: u32 = 0;
     let mut start: usize = 0;
     while retained < variables {
-        retain_row(table, start, firsts[retained as usize], c);
+        retain_row(table, start, firsts[retained as usize], limit);
         start += n + 1;
         retained += 1;
     }
 }
 
-// Retains the cells at positions above c and the results that looked at bytes before c only, and blanks the others; or says that a retained one is
-// out of range, and leaves the table as it was.
-pub fn retain(table: &mut [u32], variables: u32, n: usize, c: u32) -> bool
-    requires { ⌜ PassReady variables n c (now table) ⌝ }
-    ensures refuses { λ r. ⌜ r ≡ retainedOut variables n c (now (table .entry)) ⌝ }
-    ensures retains { λ r. ⌜ RetainsUnless r variables n c (now (table .entry)) (now (table .exit)) ⌝ }
+// Blanks the cells at positions below the limit, but for results whose reach is below it, and retains the others; or says that a retained one is out of
+// range, and leaves the table as it was.
+pub fn retain(table: &mut [u32], variables: u32, n: usize, limit: u32) -> bool
+    requires { ⌜ PassReady variables n limit (now table) ⌝ }
+    ensures refuses { λ r. ⌜ r ≡ cellsOut variables n (retained limit n (now (table .entry))) ⌝ }
+    ensures retains { λ r. ⌜ StartsUnless r variables n (retained limit n (now (table .entry))) (now (table .entry)) (now (table .exit)) ⌝ }
 {
     let mut firsts: FirstPositions = [0u32; 256];
-    let out = retained_out(table, variables, n, c, &mut firsts);
+    let out = retained_out(table, variables, n, limit, &mut firsts);
     if !out {
-        retain_rows(table, variables, n, c, &firsts);
+        retain_rows(table, variables, n, limit, &firsts);
     }
     out
 }

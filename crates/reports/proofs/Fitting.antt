@@ -32,7 +32,7 @@ accepted-code s h g A p e f o d =
     let k = code-small (g .rule) (h .input) A p o (handed-pair s h g e (A at p) f .position) (handed-input s h g e) d in omega arith
 
 -- An answer fits where each refusal and each code that it can be does.
-pub fits-each : {A : Type 0} (code-of : A → ℕ) (t : Checked A) → ((x l : ℕ) → t ≡ refused x l → x ≤ 19) → ((a : A) → t ≡ accepted a → code-of a ≤ 10001) → Fits code-of t
+pub fits-each : {A : Type 0} (code-of : A → ℕ) (t : Checked A) → ((x l : ℕ) → t ≡ refused x l → x ≤ 26) → ((a : A) → t ≡ accepted a → code-of a ≤ 10001) → Fits code-of t
 fits-each code-of (refused x l) small few = small x l refl
 fits-each code-of (accepted a) small few = few a refl
 

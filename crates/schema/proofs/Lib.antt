@@ -8,6 +8,7 @@ pub mod Waiting
 pub mod Laws
 pub mod TwoInputs
 pub mod Cell
+pub mod SameCells
 pub mod Ends
 pub mod Closed
 pub mod Examined

@@ -17,7 +17,7 @@ abbrev pub reported : {A : Type 0} → (A → List ℕ) → List ℕ → Checked
 reported numbers before (refused number line) = before
 reported numbers before (accepted a) = numbers a
 
--- The numbers fit 32 bits: refusals go up to 19, codes and lengths up to 10,001.
+-- The numbers fit 32 bits: for a refusal at most 26 is enough, for codes and lengths at most 10,001.
 abbrev pub Fits : {A : Type 0} → (A → ℕ) → Checked A → Type 0
-Fits code-of (refused number line) = number ≤ 19
+Fits code-of (refused number line) = number ≤ 26
 Fits code-of (accepted a) = code-of a ≤ 10001

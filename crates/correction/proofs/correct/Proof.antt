@@ -1,4 +1,4 @@
-use Rattle.correction.proofs.Asked.{refused-first, refused-small, refused-position, may-pass, refused-range, asks, replies}
+use Rattle.correction.proofs.Asked.{refused-first, refused-small, refused-position, passes, refused-range, asks, replies}
 use Rattle.memo.proofs.Questioned.{in-bounds}
 use mathlib.Core.Path.{refl}
 use Prim.Native.Nat.{_≤_}
@@ -33,10 +33,16 @@ returns-2 c =
     let l : length (a .input .now) ≤ a .c = omega arith in
     refused-position (c .before .before .before .before .before .before .admit .ensures) (a .c) (a .table .now) (a .work .now) (c .before .before .before .before .read2 .given .1) (c .before .before .too-small .ensures) (c .before .if1 .left) l refl refl refl
 
+add-retain : tie.Need-add-retain
+add-retain c =
+    let a = c .before .before .before .before .before .before .before .before .before .before .before .before .before .args in
+    let r = passes (c .before .before .before .before .before .before .before .admit .ensures) (a .c) (a .table .now) (a .work .now) (c .before .before .before .before .before .read2 .given .1) (c .before .before .before .too-small .ensures) (c .before .before .if1 .left) (c .before .if2 .left) in
+    omega (arith, r .inside, r .short)
+
 retain-requires : tie.Need-retain-requires
 retain-requires c κs =
     let a = c .before .before .before .before .before .before .before .before .before .before .before .before .before .args in
-    may-pass (c .before .before .before .before .before .before .before .admit .ensures) (a .c) (a .table .now) (a .work .now) (c .before .before .before .before .before .read2 .given .1) (c .before .before .before .too-small .ensures) (c .before .before .if1 .left) (c .before .if2 .left)
+    passes (c .before .before .before .before .before .before .before .admit .ensures) (a .c) (a .table .now) (a .work .now) (c .before .before .before .before .before .read2 .given .1) (c .before .before .before .too-small .ensures) (c .before .before .if1 .left) (c .before .if2 .left)
 
 same-length : tie.Need-same-length
 same-length c = search needs
@@ -80,6 +86,7 @@ correct-spec =
     too-small-requires
     returns
     returns-2
+    add-retain
     retain-requires
     same-length
     returns-3

@@ -1,20 +1,20 @@
-use mathlib.Core.Bool.{Bool, _&&_, _||_}
+use mathlib.Core.Bool.{Bool, not, _&&_, _||_}
 use mathlib.Core.Path.{_≡_, ap, ap₂, _∙_, subst}
 use Prim.Native.Nat.{ℕ, _-_, _≤_}
 use native.Mathlib.Omega.{arith}
 use lib.Dec.{eqb, ltb}
 use borrow.Author.Needs.{needs}
-use Rattle.kept.specs.Kept.{looksBefore}
+use Rattle.kept.specs.Kept.{looksBelow}
 use Rattle.kept.specs.Range.{outOfRange}
 use Rattle.passes.proofs.Looking.{Looking, looking-begins, looking-on, look-changes, look-stays}
 use Rattle.passes.proofs.look.Statement.{statement}
 use Rattle.passes.proofs.look.Tie as tie
 
 abbrev Inv-loop : tie.InvT-loop
-Inv-loop table start from to n c before out₀ changes₀ position₀ out changes position = (position ≤ to) × Looking n c table start from position out changes
+Inv-loop table start from to n limit before out₀ changes₀ position₀ out changes position = (position ≤ to) × Looking n limit table start from position out changes
 
 abbrev μ-loop : tie.MeasureT-loop
-μ-loop table start from to n c before out₀ changes₀ position₀ out changes position = to - position
+μ-loop table start from to n limit before out₀ changes₀ position₀ out changes position = to - position
 
 loop-holds : tie.Need-loop-holds Inv-loop μ-loop
 loop-holds c = (c .before .pre .2, looking-begins _ _ _ _ (c .before .pre .5))
@@ -28,8 +28,8 @@ load-requires c κs = search needs
 cast-stays : tie.Need-cast-stays Inv-loop μ-loop
 cast-stays c = search needs
 
-looks-before-requires : tie.Need-looks-before-requires Inv-loop μ-loop
-looks-before-requires c κs = search needs
+looks-below-requires : tie.Need-looks-below-requires Inv-loop μ-loop
+looks-below-requires c κs = search needs
 
 cast-out-of-range : tie.Need-cast-out-of-range Inv-loop μ-loop
 cast-out-of-range c = search needs
@@ -59,10 +59,10 @@ loop-again c =
     let a = i .before .before .before .args in
     let t = i .loop-test .taken in
     let e = ap₂ {C = ℕ × ℕ} (λ (o m : ℕ). (o, m)) (l .load .ensures .0) (l .load .ensures .1) in
-    let stay = ap (λ (x : Bool). ltb (a .c) (g .position) || x) (b .looks-before .ensures ∙ ap (looksBefore (a .c)) e) in
+    let stay = ap (λ (x : Bool). not (ltb (g .position) (a .limit)) || x) (b .looks-below .ensures ∙ ap (looksBelow (a .limit)) e) in
     let far = f .out-of-range .ensures ∙ ap (outOfRange (a .n) (g .position)) e in
     let none = c .is-blank .ensures ∙ ap (λ (k : ℕ × ℕ). eqb (k .0) 0 && eqb (k .1) 0) e in
-    (omega arith, looking-on (a .n) (a .c) (a .table .now) (a .start) (g .inv .1) stay far none)
+    (omega arith, looking-on (a .n) (a .limit) (a .table .now) (a .start) (g .inv .1) stay far none)
 
 cast-if1 : tie.Need-cast-if1 Inv-loop μ-loop
 cast-if1 c = search needs
@@ -77,8 +77,8 @@ returns c =
     let g = c .before .before .before .loop in
     let m = g .inv .0 in
     let e : g .position ≡ a .to = omega (arith, c .before .before .loop-test .left) in
-    let h = subst (λ (k : ℕ). Looking (a .n) (a .c) (a .table .now) (a .start) (a .from) k (g .out) (g .changes)) e (g .inv .1) in
-    look-changes (a .n) (a .c) (a .table .now) (a .start) (s .pre .5) h (c .if1 .taken)
+    let h = subst (λ (k : ℕ). Looking (a .n) (a .limit) (a .table .now) (a .start) (a .from) k (g .out) (g .changes)) e (g .inv .1) in
+    look-changes (a .n) (a .limit) (a .table .now) (a .start) (s .pre .5) h (c .if1 .taken)
 
 returns-2 : tie.Need-returns-2 Inv-loop μ-loop
 returns-2 c =
@@ -87,8 +87,8 @@ returns-2 c =
     let g = c .before .before .before .loop in
     let m = g .inv .0 in
     let e : g .position ≡ a .to = omega (arith, c .before .before .loop-test .left) in
-    let h = subst (λ (k : ℕ). Looking (a .n) (a .c) (a .table .now) (a .start) (a .from) k (g .out) (g .changes)) e (g .inv .1) in
-    look-stays (a .n) (a .c) (a .table .now) (a .start) (s .pre .5) h (c .if1 .left)
+    let h = subst (λ (k : ℕ). Looking (a .n) (a .limit) (a .table .now) (a .start) (a .from) k (g .out) (g .changes)) e (g .inv .1) in
+    look-stays (a .n) (a .limit) (a .table .now) (a .start) (s .pre .5) h (c .if1 .left)
 
 pub look-spec : {M : Type 1} → statement M
 look-spec =
@@ -100,7 +100,7 @@ look-spec =
     add-load
     load-requires
     cast-stays
-    looks-before-requires
+    looks-below-requires
     cast-out-of-range
     cast-out-of-range-2
     out-of-range-requires

@@ -9,16 +9,13 @@ use Rattle.passes.proofs.look_row.Statement.{statement}
 use Rattle.passes.proofs.look_row.Tie as tie
 
 abbrev Inv-loop : tie.InvT-loop
-Inv-loop table start n c row₀ at₀ row at = (at ≤ n + 1) × Looked n c table start at (row .out) (row .first)
+Inv-loop table start n limit row₀ at₀ row at = (at ≤ n + 1) × Looked n limit table start at (row .out) (row .first)
 
 abbrev μ-loop : tie.MeasureT-loop
-μ-loop table start n c row₀ at₀ row at = n + 1 - at
-
-add-t7 : tie.Need-add-t7 Inv-loop μ-loop
-add-t7 c = search needs
+μ-loop table start n limit row₀ at₀ row at = n + 1 - at
 
 loop-holds : tie.Need-loop-holds Inv-loop μ-loop
-loop-holds c = let a = c .before .args in (omega arith, look-begins (a .n) (a .c) (a .table .now) (a .start))
+loop-holds c = let a = c .before .args in (omega arith, look-begins (a .n) (a .limit) (a .table .now) (a .start))
 
 add-loop : tie.Need-add-loop Inv-loop μ-loop
 add-loop c = search needs
@@ -57,7 +54,7 @@ loop-again c =
       omega arith,
       elim (c .if1 .came) [
         | inl k ↦ rw (k .2) (k .1 .ensures)
-        | inr k ↦ rw (k .1) (look-over (a .n) (a .c) (a .table .now) (a .start) 16 (b .block-blank .result) (k .0 .left) (b .block-blank .ensures) (l .inv .1))
+        | inr k ↦ rw (k .1) (look-over (a .n) (a .limit) (a .table .now) (a .start) 16 (b .block-blank .result) (k .0 .left) (b .block-blank .ensures) (l .inv .1))
       ],
     )
 
@@ -79,7 +76,6 @@ look-row-spec =
     (tie.spec
     Inv-loop
     μ-loop
-    add-t7
     loop-holds
     add-loop
     add-loop-2

@@ -1,4 +1,5 @@
 use borrow.Author.Needs.{needs}
+use Rattle.kept.specs.Kept.{retained}
 use Rattle.passes.proofs.Looking.{noted-unless}
 use Rattle.passes.proofs.Blanking.{unless-out, where-out}
 use Rattle.passes.proofs.retain.Statement.{statement}
@@ -20,7 +21,7 @@ returns c =
     let out = c .before .before .before .before .before .before .retained-out in
     let a = c .before .before .before .before .before .before .before .before .before .before .args in
     let blank = c .before .before .retain-rows in
-    (out .ensures .0, unless-out (out .result) (a .variables) (a .n) (a .c) (a .table .now) (blank .last .0) (c .before .before .before .before .before .if1 .taken) (blank .ensures))
+    (out .ensures .0, unless-out (out .result) (a .variables) (a .n) (retained (a .limit) (a .n) (a .table .now)) (a .table .now) (blank .last .0) (c .before .before .before .before .before .if1 .taken) (blank .ensures))
 
 same-length-2 : tie.Need-same-length-2
 same-length-2 c = search needs
@@ -29,7 +30,7 @@ returns-2 : tie.Need-returns-2
 returns-2 c =
     let out = c .before .retained-out in
     let a = c .before .before .before .before .before .args in
-    (out .ensures .0, where-out (out .result) (a .variables) (a .n) (a .c) (a .table .now) (c .if1 .left))
+    (out .ensures .0, where-out (out .result) (a .variables) (a .n) (retained (a .limit) (a .n) (a .table .now)) (a .table .now) (c .if1 .left))
 
 pub retain-spec : {M : Type 1} → statement M
 retain-spec =

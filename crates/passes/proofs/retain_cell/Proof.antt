@@ -21,7 +21,7 @@ returns c =
     let k = o .before .before in
     let l = k .before in
     let a = l .before .before .before .args in
-    stores-kept (a .c) (a .index) (a .table .now) (l .load .ensures .0) (l .load .ensures .1) (k .kept-cell .ensures) (o .store .ensures)
+    stores-kept (a .limit) (a .index) (a .table .now) (l .load .ensures .0) (l .load .ensures .1) (k .kept-cell .ensures) (o .store .ensures)
 
 pub retain-cell-spec : {M : Type 1} → statement M
 retain-cell-spec =

@@ -9,13 +9,13 @@ use Rattle.passes.proofs.retain_row.Statement.{statement}
 use Rattle.passes.proofs.retain_row.Tie as tie
 
 abbrev Inv-loop : tie.InvT-loop
-Inv-loop table₀ start first c at₀ table at = (at ≤ c + 1) × Keeps c start at table₀ table
+Inv-loop table₀ start first limit at₀ table at = (at ≤ limit) × Keeps limit start at table₀ table
 
 abbrev μ-loop : tie.MeasureT-loop
-μ-loop table₀ start first c at₀ table at = c + 1 - at
+μ-loop table₀ start first limit at₀ table at = limit - at
 
 loop-holds : tie.Need-loop-holds Inv-loop μ-loop
-loop-holds c = (omega arith, keeps-first (c .before .pre .3))
+loop-holds c = (omega arith, keeps-first (c .before .pre .2))
 
 add-retain-cell : tie.Need-add-retain-cell Inv-loop μ-loop
 add-retain-cell c = search needs
@@ -46,7 +46,7 @@ same-length c = c .before .loop .inv .1 .size
 returns : tie.Need-returns Inv-loop μ-loop
 returns c =
     let l = c .before .loop .inv .0 in
-    let e : c .before .loop .at ≡ c .before .before .before .args .c + 1 = omega (arith, c .loop-test .left) in
+    let e : c .before .loop .at ≡ c .before .before .before .args .limit = omega (arith, c .loop-test .left) in
     rw e at (c .before .loop .inv .1)
 
 pub retain-row-spec : {M : Type 1} → statement M

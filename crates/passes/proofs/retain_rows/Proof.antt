@@ -8,10 +8,10 @@ use Rattle.passes.proofs.retain_rows.Statement.{statement}
 use Rattle.passes.proofs.retain_rows.Tie as tie
 
 abbrev Inv-loop : tie.InvT-loop
-Inv-loop table₀ variables n c firsts retained₀ start₀ table retained start = Blanking variables n c table₀ table retained start
+Inv-loop table₀ variables n limit firsts retained₀ start₀ table retained start = Blanking variables n limit table₀ table retained start
 
 abbrev μ-loop : tie.MeasureT-loop
-μ-loop table₀ variables n c firsts retained₀ start₀ table retained start = variables - retained
+μ-loop table₀ variables n limit firsts retained₀ start₀ table retained start = variables - retained
 
 loop-holds : tie.Need-loop-holds Inv-loop μ-loop
 loop-holds c = blanking-begins _ _ _ _
@@ -34,7 +34,7 @@ retain-row-requires c κs =
     let i = row-inside (st .args .variables) (st .args .n) (l .retained) (l .start) t (l .inv .begins) in
     let z = l .inv .retains .size in
     let u = row-unchanged t (l .inv) (st .pre .1) in
-    (omega (arith, r .short, r .below), u .0, omega (arith, r .room, r .below), u .1)
+    (u .0, omega (arith, r .room, r .inside), u .1)
 
 add-start : tie.Need-add-start Inv-loop μ-loop
 add-start c = omega (arith, c .before .before .before .before .before .before .before .before .pre .0 .short)
@@ -56,7 +56,7 @@ loop-less c = search needs
 loop-again : tie.Need-loop-again Inv-loop μ-loop
 loop-again c =
     let l = c .before .before .before .before .before in
-    blanking-goes-on (l .before .before .before .pre .0 .below) (l .loop-test .taken) (l .before .loop .inv) (c .before .before .retain-row .last .0)
+    blanking-goes-on (l .before .before .before .pre .0 .inside) (l .loop-test .taken) (l .before .loop .inv) (c .before .before .retain-row .last .0)
     (c .before .before .retain-row .ensures)
 
 same-length : tie.Need-same-length Inv-loop μ-loop

@@ -9,25 +9,25 @@ use Rattle.passes.proofs.retained_out.Statement.{statement}
 use Rattle.passes.proofs.retained_out.Tie as tie
 
 abbrev Inv-loop : tie.InvT-loop
-Inv-loop table variables n c firsts₀ row₀ start₀ firsts row start = RowsPassing variables n c table firsts row start
+Inv-loop table variables n limit firsts₀ row₀ start₀ firsts row start = RowsPassing variables n limit table firsts row start
 
 abbrev μ-loop : tie.MeasureT-loop
-μ-loop table variables n c firsts₀ row₀ start₀ firsts row start = variables - row
+μ-loop table variables n limit firsts₀ row₀ start₀ firsts row start = variables - row
 
 loop-holds : tie.Need-loop-holds Inv-loop μ-loop
-loop-holds c = let a = c .before .args in rows-begin (a .variables) (a .n) (a .c) (a .table .now) (c .before .pre .1)
+loop-holds c = let a = c .before .args in rows-begin (a .variables) (a .n) (a .limit) (a .table .now) (c .before .pre .1)
 
 look-row-requires : tie.Need-look-row-requires Inv-loop μ-loop
 look-row-requires c κs =
     let r = c .before .before .before .pre .0 in
     let i = row-inside _ _ _ _ (c .loop-test .taken) (c .before .loop .inv .begins) in
-    (r .short, r .below, omega (arith, r .room))
+    (r .short, r .inside, omega (arith, r .room))
 
 returns : tie.Need-returns Inv-loop μ-loop
 returns c =
     let l = c .before .before .before in
     let a = l .before .before .args in
-    (sym (rows-out (a .variables) (a .n) (a .c) (a .table .now) (l .loop .inv) (c .before .look-row .ensures) (c .before .before .loop-test .taken) (c .if1 .taken)), tt)
+    (sym (rows-out (a .variables) (a .n) (a .limit) (a .table .now) (l .loop .inv) (c .before .look-row .ensures) (c .before .before .loop-test .taken) (c .if1 .taken)), tt)
 
 cast-firsts : tie.Need-cast-firsts Inv-loop μ-loop
 cast-firsts c = search needs
@@ -60,7 +60,7 @@ loop-again c =
     let l = c .before .before .before in
     let a = l .before .before .args in
     let r = l .before .before .pre .0 in
-    rows-go-on (a .variables) (a .n) (a .c) (a .table .now) (l .loop .inv) (c .before .look-row .ensures) (r .below) (r .few)
+    rows-go-on (a .variables) (a .n) (a .limit) (a .table .now) (l .loop .inv) (c .before .look-row .ensures) (r .inside) (r .few)
     (c .before .before .loop-test .taken) (c .if1 .left)
 
 returns-2 : tie.Need-returns-2 Inv-loop μ-loop
@@ -68,7 +68,7 @@ returns-2 c =
     let a = c .before .before .before .args in
     let l = c .before .loop .inv in
     let t = c .loop-test .left in
-    (sym (rows-in (a .variables) (a .n) (a .c) (a .table .now) l t), rows-noted (a .variables) (a .n) (a .c) (a .table .now) l t)
+    (sym (rows-in (a .variables) (a .n) (a .limit) (a .table .now) l t), rows-noted (a .variables) (a .n) (a .limit) (a .table .now) l t)
 
 pub retained-out-spec : {M : Type 1} → statement M
 retained-out-spec =
