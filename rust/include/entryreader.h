@@ -77,14 +77,27 @@ uint32_t entryreader_question(
     uint32_t (*answer)[4]);
 
 /*
- * The question about an input of which the byte at c was corrected, over the table that a question or a correction left of the input before. Kept are
- * its cells at positions above c, and each success or failure whose reach is at most c. Returns as entryreader_question does, with the count of newly
- * decided cells; the refusals are those of the question, 18 and 19.
+ * The question about an input of which the byte at c was corrected, over a kept table of the input before: a blank one, one that a question left, or
+ * one that this call or entryreader_further left over a kept one. Retained are its cells at positions above c, and each success or failure whose reach
+ * is at most c. Returns as entryreader_question does, with the count of newly decided cells; the refusals are those of the question, 18 and 19 (a retained
+ * cell with an outcome over 5 + n, a success that ends left of its place, or a success or a failure whose reach is below its place).
  */
 uint32_t entryreader_correct(
     const uint8_t *sheet, size_t sheet_length,
     const uint8_t *input, size_t input_length,
     uint32_t variable, uint32_t position, uint32_t c,
+    uint32_t *table, size_t table_length,
+    uint32_t *work, size_t work_length,
+    uint32_t (*answer)[4]);
+
+/*
+ * A further question, over a kept table of the same input, of which nothing is blanked: the first V times (n + 1) cells are retained. Returns as
+ * entryreader_question does, with the count of newly decided cells; the refusals are those of the question and 19.
+ */
+uint32_t entryreader_further(
+    const uint8_t *sheet, size_t sheet_length,
+    const uint8_t *input, size_t input_length,
+    uint32_t variable, uint32_t position,
     uint32_t *table, size_t table_length,
     uint32_t *work, size_t work_length,
     uint32_t (*answer)[4]);

@@ -69,6 +69,20 @@ unsafe extern "C" {
         answer: *mut [u32; 4],
     ) -> u32;
 
+    fn entryreader_further(
+        sheet: *const u8,
+        sheet_length: usize,
+        input: *const u8,
+        input_length: usize,
+        variable: u32,
+        position: u32,
+        table: *mut u32,
+        table_length: usize,
+        work: *mut u32,
+        work_length: usize,
+        answer: *mut [u32; 4],
+    ) -> u32;
+
     fn entryreader_write(
         sheet: *const u8,
         sheet_length: usize,
@@ -216,6 +230,34 @@ pub fn correct(
             variable,
             position,
             c,
+            table.as_mut_ptr(),
+            table.len(),
+            work.as_mut_ptr(),
+            work.len(),
+            answer,
+        )
+    }
+}
+
+/// 0 with the four numbers in `answer`, or 100 plus the number of a refusal.
+pub fn further(
+    sheet: &[u8],
+    entry: &[u8],
+    variable: u32,
+    position: u32,
+    table: &mut [u32],
+    work: &mut [u32],
+    answer: &mut [u32; 4],
+) -> u32 {
+    // SAFETY: the call has no precondition; it reads the first two slices, and writes inside the three that are lent exclusively.
+    unsafe {
+        entryreader_further(
+            sheet.as_ptr(),
+            sheet.len(),
+            entry.as_ptr(),
+            entry.len(),
+            variable,
+            position,
             table.as_mut_ptr(),
             table.len(),
             work.as_mut_ptr(),

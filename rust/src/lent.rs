@@ -3,6 +3,9 @@
 //!
 //! After a refusal everything lent is as it was.
 //!
+//! A table is kept, of a sheet and an entry, where it is blank, where [`question`] left it, or where [`further`] or [`correct`] left it over a kept one;
+//! [`judge`], [`opening`] and [`write`] leave the table of the question that they ask.
+//!
 //! ```
 //! use entryreader::{Answer, lent};
 //!
@@ -163,12 +166,12 @@ pub fn question(
     Answer::from_numbers(code, numbers)
 }
 
-/// The outcome of a variable at a position of an entry of which the byte at `c` was corrected, over the table that a question left of the entry
-/// before, or a correction; `cells` is the count of newly decided cells. [`Reader::correct`](crate::Reader::correct) keeps entry and table itself.
+/// The outcome of a variable at a position of an entry of which the byte at `c` was corrected, over a kept table of the entry before; `cells` is the
+/// count of newly decided cells. [`Reader::correct`](crate::Reader::correct) keeps entry and table itself.
 ///
 /// Cells at positions up to `c` are blanked, unless they hold a success or a failure whose reach is at most `c`; the others are retained. The answer
 /// is then the one that a fresh table gives, and afterwards a cell is not blank where it was retained so or its pair is reached, and holds its pair's
-/// outcome and reach: the table serves for the next correction. From any other table nothing is promised but that the call ends within its slices.
+/// outcome and reach: the table is a kept one of the corrected entry. From any other table nothing is promised but that the call ends within its slices.
 /// Later numbers of both slices are unchanged.
 ///
 /// ```
@@ -208,6 +211,49 @@ pub fn correct(
         work,
         &mut numbers,
     );
+    Answer::from_numbers(code, numbers)
+}
+
+/// The outcome of a variable at a position of an entry, over a kept table of the same entry, of which nothing is blanked; `cells` is the count of newly
+/// decided cells. [`Reader::further`](crate::Reader::further) keeps entry and table itself.
+///
+/// The answer is the one that a fresh table gives, and afterwards a cell is not blank where it was not blank before or its pair is reached, and holds its
+/// pair's outcome and reach: the table is kept still. Two further questions get the same answers but for `cells`, and leave the same table, in either
+/// order.
+///
+/// It is refused (19) where any of the first V times (n + 1) cells has an outcome over 5 + n, a success that ends left of its place, or a success or a
+/// failure whose reach is below its place. From any other table that is not kept nothing is promised but that the call ends within its slices. Later
+/// numbers of both slices are unchanged.
+///
+/// ```
+/// use entryreader::{Answer, lent::{further, question}};
+///
+/// // A digit and a full stop.
+/// let sheet = b"    3    1   46    0    0
+///     1    4    2    3    2
+///     2    3    1    0    0
+///     3    2   46    0    0
+/// ";
+/// let (mut table, mut work) = ([0; 18], [0; 9]);
+/// assert_eq!(question(sheet, b"6.", 2, 0, &mut table, &mut work)?, Answer::Success { end: 1, cells: 1 });
+/// // The digit is not read again.
+/// assert_eq!(further(sheet, b"6.", 1, 0, &mut table, &mut work)?, Answer::Success { end: 2, cells: 2 });
+/// assert_eq!(further(sheet, b"6.", 2, 0, &mut table, &mut work)?, Answer::Success { end: 1, cells: 0 });
+/// // No question leaves a success at 1 that reaches 0.
+/// table[2 * 4..2 * 5].copy_from_slice(&[7, 0]);
+/// assert_eq!(further(sheet, b"6.", 2, 1, &mut table, &mut work).unwrap_err().number(), 19);
+/// # Ok::<(), entryreader::Error>(())
+/// ```
+pub fn further(
+    sheet: &[u8],
+    entry: &[u8],
+    variable: u32,
+    position: u32,
+    table: &mut [u32],
+    work: &mut [u32],
+) -> Result<Answer, Error> {
+    let mut numbers = [0; 4];
+    let code = calls::further(sheet, entry, variable, position, table, work, &mut numbers);
     Answer::from_numbers(code, numbers)
 }
 

@@ -35,7 +35,8 @@ pub struct Reader {
     letters: Vec<u8>,
     /// That of the last answer; empty before the first.
     entry: Vec<u8>,
-    /// Its first V times (n + 1) cells are those that the last answer left of the entry, blank before the first: it can always be corrected.
+    /// Its first V times (n + 1) cells are those that the last answer left of the entry, blank before the first: a kept table, for corrections and
+    /// further questions.
     table: Vec<u32>,
     work: Vec<u32>,
     output: Vec<u8>,
@@ -183,6 +184,33 @@ impl Reader {
         let answer = lent::correct(&self.sheet, &entry, variable, position, c, table, work)?;
         self.entry = entry;
         Ok(answer)
+    }
+
+    /// A further question about the [`entry`](Reader::entry) of the last answer: the answer about a variable at a position of it, the one that
+    /// [`ask`](Reader::ask) gives, but for `cells`, the count of newly decided cells. Successes and failures of the answers before are looked up; a loop,
+    /// a missing rule or the entry's end is followed again, to name its pair.
+    ///
+    /// A refusal (8 or 9) leaves entry and table as they were. Before the first answer it is a question about the empty entry.
+    ///
+    /// ```
+    /// use entryreader::{Answer, Reader, Verdict};
+    ///
+    /// // A digit and a full stop.
+    /// let mut reader = Reader::new(b"    3    1   46    0    0
+    ///     1    4    2    3    2
+    ///     2    3    1    0    0
+    ///     3    2   46    0    0
+    /// ")?;
+    /// assert_eq!(reader.verdict(b"6.")?, Verdict::Recognised { cells: 3 });
+    /// // The verdict has read the digit at 0, and looked for none at 1.
+    /// assert_eq!(reader.further(2, 0)?, Answer::Success { end: 1, cells: 0 });
+    /// assert_eq!(reader.further(2, 1)?, Answer::Failure { cells: 1 });
+    /// assert_eq!(reader.further(2, 3).unwrap_err().number(), 9);
+    /// # Ok::<(), entryreader::Error>(())
+    /// ```
+    pub fn further(&mut self, variable: u32, position: u32) -> Result<Answer, Error> {
+        let (table, work) = (&mut self.table, &mut self.work);
+        lent::further(&self.sheet, &self.entry, variable, position, table, work)
     }
 
     /// The reading of an entry: the answer about the start variable at 0, and for success and failure the lines that show it. The entry need not end
@@ -343,8 +371,8 @@ impl Reader {
         &self.entry
     }
 
-    /// The table that the last answer left of the [`entry`](Reader::entry), as [`question`](lent::question) and [`correct`](lent::correct) say:
-    /// V times (n + 1) cells of two numbers, outcome then reach; blank before the first answer.
+    /// The table that the last answer left of the [`entry`](Reader::entry), as [`question`](lent::question), [`further`](lent::further) and
+    /// [`correct`](lent::correct) say: V times (n + 1) cells of two numbers, outcome then reach; blank before the first answer.
     ///
     /// ```
     /// let mut reader = entryreader::Reader::new(b"    1    1   46    0    0\n    1    2   46    0    0\n")?;

@@ -48,8 +48,9 @@ pub enum Refusal {
     Allowance,
     /// 18, of a correction: the corrected byte's position is not below the entry's length.
     Corrected,
-    /// 19, of a correction: a retained cell of the table has an outcome over 5 + n, a success that ends left of its place, or a success or a failure
-    /// whose reach is below its place.
+    /// 19, of a correction and a further question only: a cell of the table has an outcome over 5 + n, a success that ends left of its place, or a
+    /// success or a failure whose reach is below its place; for a correction a cell that it retains, for a further question any of the first V times
+    /// (n + 1).
     Cell,
 }
 

@@ -82,6 +82,20 @@ pub use crate::calls::question;
 /// ```
 pub use crate::calls::correct;
 
+/// The further question, with the question's numbers; the count is that of newly decided cells:
+///
+/// ```
+/// use entryreader::test_calls::further;
+///
+/// let sheet = b"    1    1   46    0    0\n    1    2   46    0    0\n";
+/// let (mut table, mut work, mut answer) = ([0; 4], [0; 2], [0; 4]);
+/// assert_eq!(further(sheet, b".", 1, 0, &mut table, &mut work, &mut answer), 0);
+/// assert_eq!(answer, [6, 0, 0, 1]);
+/// assert_eq!(further(sheet, b".", 1, 0, &mut table, &mut work, &mut answer), 0);
+/// assert_eq!(answer, [6, 0, 0, 0]);
+/// ```
+pub use crate::calls::further;
+
 /// The code of a run whose moves are spent.
 ///
 /// ```
