@@ -252,16 +252,21 @@ impl Printed {
         self.table();
     }
 
+    fn answer(&mut self, name: &str, found: Result<Answer, Error>) {
+        let (code, numbers) = returned(found.map(answer_numbers));
+        report(&mut self.text, name, code, &numbers);
+        self.table();
+    }
+
     fn questions(&mut self, sheet: &[u8], entry: &[u8]) {
         self.fill();
         let found = lent::question(sheet, entry, 1, 0, &mut self.table, &mut self.work);
-        let (code, numbers) = returned(found.map(answer_numbers));
-        report(&mut self.text, "question", code, &numbers);
-        self.table();
+        self.answer("question", found);
         let found = lent::correct(sheet, entry, 1, 0, 0, &mut self.table, &mut self.work);
-        let (code, numbers) = returned(found.map(answer_numbers));
-        report(&mut self.text, "correct", code, &numbers);
-        self.table();
+        self.answer("correct", found);
+        let behind = u32::try_from(entry.len()).expect("it is short");
+        let found = lent::further(sheet, entry, 1, behind, &mut self.table, &mut self.work);
+        self.answer("further", found);
     }
 
     fn reading(&mut self, sheet: &[u8], entry: &[u8]) {
@@ -319,12 +324,19 @@ fn marked_entries_in_c() {
     assert!(text.contains(&cells_behind()), "{text}");
 }
 
-/// Case a asked, and corrected at 0 to what it is: two cells are decided anew, and the table is the same.
+/// Case a asked, and corrected at 0 to what it is: two cells are decided anew, and the table is the same. Further behind its last byte, where a sign is
+/// looked for: two more, which have the end.
 fn cells_of_a() -> String {
     let mut text = String::new();
-    let table = [&CELLS.concat()[..], &[7; 16]].concat();
-    for (name, cells) in [("question", 5), ("correct", 2)] {
-        report(&mut text, name, 0, &[8, 0, 0, cells]);
+    let mut behind = CELLS;
+    [behind[0][6], behind[1][6]] = [4, 4];
+    for (name, numbers, cells) in [
+        ("question", [8, 0, 0, 5], CELLS),
+        ("correct", [8, 0, 0, 2], CELLS),
+        ("further", [4, 2, 3, 2], behind),
+    ] {
+        let table = [&cells.concat()[..], &[7; 16]].concat();
+        report(&mut text, name, 0, &numbers);
         print(&mut text, "table", &table);
     }
     text
@@ -452,7 +464,7 @@ fn declarations() {
         in_source,
         "header and source"
     );
-    assert_eq!(in_source.len(), 9, "{in_source:?}");
+    assert_eq!(in_source.len(), 10, "{in_source:?}");
     assert_eq!(in_source["entryreader_sheet"].len(), 4);
     assert_eq!(externs.matches(") -> u32;").count(), in_source.len());
     assert_eq!(header.matches(");\n").count(), in_source.len());

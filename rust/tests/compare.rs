@@ -2,11 +2,15 @@
 //!
 //! Every lent slice is the middle of a longer one: what may not change, in it and around it, is compared too.
 mod comparison;
+#[allow(dead_code)] // Other tests correct entries.
+mod kept;
 mod lent;
 #[allow(dead_code)] // Other tests ask the other cases.
 mod marked_cases;
+#[allow(dead_code)] // Other tests hand over sheets that are refused.
 mod questions;
 mod random;
+#[allow(dead_code)] // Other tests follow a walk.
 mod recognizer;
 
 use comparison::Comparison;
@@ -124,6 +128,7 @@ fn lengths_of_table_work_and_output() {
         for table in &around(2 * case.cells) | &around(case.cells) {
             for work in around(case.cells) {
                 comparison.question(&case, table, work);
+                comparison.further(&case, table, work);
                 comparison.judge(&case, table, work);
                 drop(comparison.opening(&case, table, work));
                 for output in around(49 * case.cells) {
@@ -243,6 +248,8 @@ fn greatest_table() {
             let (cells, output) = (case.cells, 49 * case.cells);
             comparison.question(&case, 2 * cells, cells);
             comparison.question(&case, 2 * cells, cells - 1);
+            comparison.further(&case, 2 * cells, cells);
+            comparison.further(&case, 2 * cells - 1, cells);
             comparison.write(&case, 2 * cells, cells, output);
             comparison.write(&case, 2 * cells, cells, output - 1);
             let mut ended = case;

@@ -1,4 +1,5 @@
 //! One byte corrected: chains of corrections beside the separate recognizer, how few cells they decide, refusals, and tables that no call left.
+#[allow(dead_code)] // Other tests ask further questions.
 mod kept;
 #[allow(dead_code)] // Other tests lend other slices.
 mod lent;
@@ -18,183 +19,19 @@ mod sheets;
 #[allow(dead_code)] // Other sheets are measured with.
 #[path = "../benches/benchmark/society.rs"]
 mod society;
+#[allow(dead_code)] // Other tests ask further questions.
+mod tables;
 
-use entryreader::{Answer, Pair, Refusal, test_calls};
-use kept::{BLANK, Cell, Correction, Fault, SUCCESS};
-use lent::Lent;
+use entryreader::{Answer, Pair, Refusal};
+use kept::{BLANK, Call, Cell, Fault, SUCCESS};
 use random::Random;
-use recognizer::{Answered, Question, code, with_deep_stack};
+use recognizer::{Answered, code, with_deep_stack};
 use std::collections::{BTreeMap, BTreeSet};
 use std::io::Write;
+use tables::{Case, START, any_cells, loops, two_rules};
 
 /// The code of a loop.
 const LOOP: u32 = 2;
-
-/// The start of a sheet whose start is 1.
-const START: Pair = Pair {
-    variable: 1,
-    position: 0,
-};
-
-/// The four numbers of an answer, or the number of a refusal.
-type Said = Result<[u32; 4], u32>;
-
-/// A sheet of so many variables, an entry, and the position of the byte that was corrected last.
-#[derive(Clone, Debug)]
-struct Case {
-    sheet: Vec<u8>,
-    entry: Vec<u8>,
-    variables: usize,
-    c: u32,
-}
-
-impl Case {
-    fn random(random: &mut Random, variables: u64, length: usize) -> Case {
-        Case {
-            sheet: questions::sheet(random, variables),
-            entry: questions::entry(random, length),
-            variables: variables as usize,
-            c: 0,
-        }
-    }
-
-    fn cells(&self) -> usize {
-        self.variables * (self.entry.len() + 1)
-    }
-
-    /// A position of the entry, the first, the last and the middle more often than others.
-    fn position(&self, random: &mut Random) -> usize {
-        let last = self.entry.len() - 1;
-        let any = random.index(last + 1);
-        random.pick(&[0, last / 2, last, any, any, any])
-    }
-
-    /// Another byte at some position, sometimes the same.
-    fn correct(&mut self, random: &mut Random) {
-        let at = self.position(random);
-        let other = random.pick(b"a\xE9\xE9b\xC9-6A\xA0 \xD7!\x80.");
-        self.entry[at] = match random.below(6) {
-            0 => self.entry[at],
-            1 => random.below(256) as u8,
-            _ => other,
-        };
-        self.c = at as u32;
-    }
-
-    fn pair(&self, random: &mut Random) -> Pair {
-        let variable = match random.below(3) {
-            0 => 1,
-            _ => 1 + random.index(self.variables),
-        };
-        let position = match random.below(2) {
-            0 => 0,
-            _ => random.index(self.entry.len() + 1),
-        };
-        Pair {
-            variable: variable as u32,
-            position: position as u32,
-        }
-    }
-
-    /// What the recognizer says.
-    fn answered(&self, asked: Pair) -> Answered {
-        let question = Question {
-            sheet: &self.sheet,
-            entry: &self.entry,
-            asked,
-        };
-        recognizer::question(question, 2 * self.cells(), self.cells())
-            .unwrap_or_else(|number| panic!("{number}: {self}"))
-    }
-
-    /// What document 02 says of the correction.
-    fn by_document(&self) -> Correction {
-        Correction {
-            n: self.entry.len() as u32,
-            c: self.c,
-        }
-    }
-
-    /// The cells of a table, without later numbers.
-    fn first<'a>(&self, table: &'a [u32]) -> &'a [u32] {
-        &table[..2 * self.cells()]
-    }
-
-    /// The call itself.
-    fn call(&self, asked: Pair, table: &mut [u32], work: &mut [u32], answer: &mut [u32; 4]) -> u32 {
-        test_calls::correct(
-            &self.sheet,
-            &self.entry,
-            asked.variable,
-            asked.position,
-            self.c,
-            table,
-            work,
-            answer,
-        )
-    }
-
-    /// A correction over a table of these numbers and a work slice that is longer than it needs to be.
-    fn correction(&self, random: &mut Random, asked: Pair, table: &mut Vec<u32>) -> Said {
-        self.correction_over(random, asked, table, self.cells() + 3)
-    }
-
-    /// A correction over a table of these numbers and so many numbers of work slice, with guards around everything: after a refusal all is as it was,
-    /// and else nothing changes beyond the first V times (n + 1) cells of the table and numbers of the work slice, and the code is at most 5 + n.
-    fn correction_over(
-        &self,
-        random: &mut Random,
-        asked: Pair,
-        table: &mut Vec<u32>,
-        work: usize,
-    ) -> Said {
-        let mut lent = Lent::of(random, table);
-        let mut work = Lent::any(random, work);
-        let mut answer = Lent::<u32>::any(random, 4);
-        let returned = self.call(asked, lent.slice(), work.slice(), answer.array());
-        if returned != 0 {
-            let unchanged = lent.unchanged() && work.unchanged() && answer.unchanged();
-            assert!(unchanged, "{returned} {asked:?} {self}");
-            return Err(returned - 100);
-        }
-        let kept = lent.keeps_from(2 * self.cells()) && work.keeps_from(self.cells());
-        assert!(kept && answer.keeps_from(4), "{asked:?} {self}");
-        *table = lent.slice().to_vec();
-        let said: [u32; 4] = *answer.array();
-        assert!(
-            said[0] <= SUCCESS + self.entry.len() as u32,
-            "{said:?} {asked:?} {self}"
-        );
-        Ok(said)
-    }
-
-    /// A question over a fresh table, longer than it needs to be; the table afterwards.
-    fn question(&self, random: &mut Random, asked: Pair) -> Vec<u32> {
-        let mut table = Lent::any(random, 2 * self.cells() + 3);
-        let mut work = Lent::any(random, self.cells());
-        let mut answer = [0; 4];
-        let pair = (asked.variable, asked.position);
-        let returned = test_calls::question(
-            &self.sheet,
-            &self.entry,
-            pair.0,
-            pair.1,
-            table.slice(),
-            work.slice(),
-            &mut answer,
-        );
-        assert_eq!(returned, 0, "{asked:?} {self}");
-        table.slice().to_vec()
-    }
-}
-
-impl std::fmt::Display for Case {
-    fn fmt(&self, f: &mut std::fmt::Formatter<'_>) -> std::fmt::Result {
-        let sheet = String::from_utf8_lossy(&self.sheet);
-        let entry = String::from_utf8_lossy(&self.entry);
-        write!(f, "{sheet}{entry:?} corrected at {}", self.c)
-    }
-}
 
 /// How often each was met. By codes, every success as 5: outcomes; and what a cell held whose pair is reached, where it was retained at a position
 /// above c, where it was retained for its reach, and where it was blanked. Loops that begin right of the corrected byte; corrections that decide fewer
@@ -219,22 +56,16 @@ impl Met {
         asked: Pair,
         table: &mut Vec<u32>,
     ) -> u32 {
-        let found = case.answered(asked);
         let before = table.clone();
-        let start = case.by_document().retained(case.first(table));
-        let (cells, newly) = kept::left(&found.table, &start);
-        let later = &before[2 * case.cells()..];
-        let said = case.correction(random, asked, table);
-        assert_eq!(said, Ok(found.numbers(newly)), "{asked:?} {case}");
-        assert_eq!(*table, [&cells, later].concat(), "{asked:?} {case}");
+        let (found, newly) = case.compared(random, case.last_correction(), asked, table);
         self.note(case, asked, &found, case.first(&before));
         self.fewer += u64::from(newly < found.cells);
         newly
     }
 
     fn note(&mut self, case: &Case, asked: Pair, found: &Answered, before: &[u32]) {
-        let correction = case.by_document();
-        let reached = correction.cells(before).zip(found.table.chunks(2));
+        let correction = case.last_correction();
+        let reached = kept::cells(case.n(), before).zip(found.table.chunks(2));
         for ((place, cell), _) in reached.filter(|(_, new)| new[0] != 0) {
             let met = match (case.c < place, correction.stays(place, cell)) {
                 (true, _) => &mut self.above,
@@ -312,24 +143,6 @@ fn many_longer_chains() {
     met.assert_met(500);
 }
 
-/// Variable 1 comes back to itself behind a byte `a`, variable 3 at once; variable 2 is a byte `a`, variable 4 has no rule, and variable 5 asks for it
-/// behind an `a`.
-fn loops(entry: &[u8], c: u32) -> Case {
-    let lines = [
-        [5, 1, 46, 0, 0],
-        [1, 4, 2, 3, 3],
-        [2, 2, 97, 0, 0],
-        [3, 4, 3, 2, 2],
-        [5, 4, 2, 4, 4],
-    ];
-    Case {
-        sheet: lines.map(questions::row).concat().into_bytes(),
-        entry: entry.to_vec(),
-        variables: 5,
-        c,
-    }
-}
-
 /// A loop wholly right of the corrected byte, whose cells are retained: it is walked again, so that its pair is named. A missing rule and an end too.
 #[test]
 fn retained_loops() {
@@ -368,12 +181,7 @@ fn blanked_loops() {
         assert_eq!(table[..40], cells);
     }
     // Case e: 1, 3 and 5 have the end, of which 5 stands behind the corrected byte.
-    let mut case = Case {
-        sheet: marked_cases::H.as_bytes().to_vec(),
-        entry: b"-6".to_vec(),
-        variables: 6,
-        c: 1,
-    };
+    let mut case = Case::new(marked_cases::H, b"-6", 1);
     let mut table = case.question(&mut random, START);
     case.entry[1] = b'7';
     let said = case.correction(&mut random, START, &mut table);
@@ -410,28 +218,6 @@ fn safe_call() {
     }
 }
 
-/// A number that may stand in a cell at a place of an entry of n bytes: most are in range.
-fn number(random: &mut Random, place: usize, n: usize) -> u32 {
-    let (place, n) = (place as u32, n as u32);
-    let end = place + random.below(u64::from(n - place) + 1) as u32;
-    match random.below(400) {
-        0 => random.pick(&[6 + n, u32::MAX, 1 << 31]),
-        1 => 5 + place.saturating_sub(1),
-        2..150 => 5 + end,
-        150 => 5 + n,
-        _ => random.below(5) as u32,
-    }
-}
-
-/// A reach that may stand beside it: most are in range.
-fn reach(random: &mut Random, place: usize, n: usize) -> u32 {
-    let (place, n) = (place as u32, n as u32);
-    match random.below(400) {
-        0 => random.pick(&[0, place.saturating_sub(1), u32::MAX]),
-        _ => place + random.below(u64::from(n - place) + 2) as u32,
-    }
-}
-
 /// Any table: refused with 18 or 19 exactly where their conditions hold, else the call ends within its slices; the same with the table of another sheet
 /// or another entry. What brings a table under 19 was met as its one fault, at positions above c and up to c.
 #[test]
@@ -451,12 +237,11 @@ fn any_table() {
             0 => Case::random(&mut random, variables, length).question(&mut random, asked),
             _ => any_cells(&mut random, case.cells() + 2, length),
         };
-        let correction = case.by_document();
-        let faults: Vec<(Fault, bool)> = correction
-            .cells(case.first(&table))
-            .filter_map(|(place, cell)| Some((correction.fault(place, cell)?, case.c < place)))
+        let (call, n) = (case.last_correction(), case.n());
+        let faults: Vec<(Fault, bool)> = kept::cells(n, case.first(&table))
+            .filter_map(|(place, cell)| Some((call.fault(n, place, cell)?, case.c < place)))
             .collect();
-        let refused = correction.refused(case.first(&table));
+        let refused = call.refused(n, case.first(&table));
         let said = case.correction(&mut random, asked, &mut table);
         assert_eq!(said.err(), refused, "{asked:?} {case}");
         met[refused.map_or(0, |number| number as usize - 17)] += 1;
@@ -469,39 +254,10 @@ fn any_table() {
     assert!(alone.values().all(|met| 100 < *met), "{alone:?}");
 }
 
-/// So many cells of an entry of n bytes.
-fn any_cells(random: &mut Random, cells: usize, n: usize) -> Vec<u32> {
-    let places = (0..=n).cycle().take(cells);
-    let cell = |place| [number(random, place, n), reach(random, place, n)];
-    places.flat_map(cell).collect()
-}
-
-/// An entry of n bytes `a` under two rules of a byte `a` each, its byte at c corrected. Variable 1 at 0 is asked, which takes the first byte and reaches
-/// no other pair: what variable 2 holds is retained or blanked, and nothing else happens to it.
-fn two_rules(n: u32, c: u32) -> Case {
-    let lines = [[2, 1, 46, 0, 0], [1, 2, 97, 0, 0], [2, 2, 97, 0, 0]];
-    Case {
-        sheet: lines.map(questions::row).concat().into_bytes(),
-        entry: vec![b'a'; n as usize],
-        variables: 2,
-        c,
-    }
-}
-
 /// The correction at c over a table that is blank but for the cell of variable 2 at a place: what that cell holds afterwards, or the refusal's number.
 fn one_cell(n: u32, c: u32, place: u32, cell: Cell) -> Result<Cell, u32> {
-    let (case, at) = (two_rules(n, c), 2 * (n + 1 + place) as usize);
-    let mut table = vec![0; 2 * case.cells()];
-    table[at..at + 2].copy_from_slice(&cell);
-    let said = case.correction(&mut Random(20), START, &mut table)?;
-    assert_eq!(said, [6, 0, 0, 1], "{cell:?} at {place}, {case}");
-    let after = [table[at], table[at + 1]];
-    let mut others = table;
-    others[at..at + 2].fill(0);
-    assert_eq!(others[..2], [6, 1]);
-    let blank = others[2..].iter().all(|number| *number == 0);
-    assert!(blank, "{cell:?} at {place}, {case}");
-    Ok(after)
+    let at = (n + 1 + place) as usize;
+    tables::one_cell(&two_rules(n, c), Call::Correction { c }, at, cell)
 }
 
 /// Every kind of outcome beside every kind of reach, at a place of four bytes that are corrected at c.
@@ -516,8 +272,8 @@ fn every_kind(c: u32, place: u32) -> Vec<Cell> {
 /// A cell stays, is blanked or refused as document 02 says: why it is refused, whether it stays, and whether it stands above c. The outcome 0 has reach 0
 /// in a kept table, and another reach beside it says nothing: above c it may stay or not.
 fn as_said(n: u32, c: u32, place: u32, cell: Cell) -> (Option<Fault>, bool, bool) {
-    let correction = Correction { n, c };
-    let (fault, stays) = (correction.fault(place, cell), correction.stays(place, cell));
+    let call = Call::Correction { c };
+    let (fault, stays) = (call.fault(n, place, cell), call.stays(place, cell));
     let said = one_cell(n, c, place, cell);
     let shown = format!("{cell:?} at {place} of {n}, corrected at {c}");
     match (fault, stays) {
@@ -628,12 +384,7 @@ fn edges() {
 /// A cell with the outcome 0 counts as blank, whatever its reach: its pair is decided anew, and counted.
 #[test]
 fn blank_but_for_its_reach() {
-    let case = Case {
-        sheet: marked_cases::I.as_bytes().to_vec(),
-        entry: b"ab".to_vec(),
-        variables: 3,
-        c: 0,
-    };
+    let case = Case::new(marked_cases::I, b"ab", 0);
     let mut table = vec![0; 18];
     // 2 at 1, where the b is.
     table[2 * (3 + 1) + 1] = 7;
@@ -659,7 +410,7 @@ fn room() {
             let mut table = kept[..table].to_vec();
             let enough = 40 <= table.len() && 20 <= work;
             let expected = if enough { Ok([2, 3, 2, 0]) } else { Err(10) };
-            let said = case.correction_over(&mut random, asked, &mut table, work);
+            let said = case.said_over(&mut random, case.last_correction(), asked, &mut table, work);
             assert_eq!(said, expected, "{} {work}", table.len());
         }
     }
@@ -671,12 +422,7 @@ fn room() {
 fn case_a() {
     let mut random = Random(26);
     for (c, newly) in [(0, 2), (1, 3), (2, 3)] {
-        let case = Case {
-            sheet: marked_cases::H.as_bytes().to_vec(),
-            entry: b"-6.".to_vec(),
-            variables: 6,
-            c,
-        };
+        let case = Case::new(marked_cases::H, b"-6.", c);
         let mut table = case.question(&mut random, START);
         let before = table.clone();
         let said = case.correction(&mut random, START, &mut table);
@@ -690,20 +436,15 @@ fn case_a() {
 #[test]
 fn near_the_end() {
     let line = society::one_line(0);
-    let (variables, n) = (line.variables(), line.entry.len());
-    let mut case = Case {
-        sheet: line.sheet,
-        entry: line.entry,
-        variables,
-        c: 0,
-    };
+    let n = line.entry.len();
+    let mut case = Case::new(line.sheet, &line.entry, 0);
     let (mut random, mut met) = (Random(27), Met::default());
     let mut table = case.question(&mut random, START);
     for (c, byte) in [(n - 1, b'!'), (n - 1, b'.'), (n - 2, b'x'), (n - 2, b's')] {
         (case.c, case.entry[c]) = (c as u32, byte);
         let newly = met.correction(&mut random, &case, START, &mut table);
         let reached = case.answered(START).table;
-        let cells = case.by_document().cells(&reached);
+        let cells = kept::cells(case.n(), &reached);
         let by_position = cells.filter(|(place, cell)| cell[0] != 0 && *place <= case.c);
         let by_position = by_position.count() as u32;
         assert!(

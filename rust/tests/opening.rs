@@ -2,6 +2,8 @@
 //! room and refusals; `Reader` beside the call and the verdict, with corrections behind it.
 #[allow(dead_code)] // Other tests make the other calls.
 mod comparison;
+#[allow(dead_code)] // Other tests correct entries, and ask further questions.
+mod kept;
 #[allow(dead_code)] // Other tests change lent numbers.
 mod lent;
 #[allow(dead_code)] // Other tests ask the other cases.
@@ -405,15 +407,6 @@ fn room() {
     }
 }
 
-/// A sheet of these lines.
-fn lines(lines: &[&str]) -> Vec<u8> {
-    lines
-        .iter()
-        .flat_map(|line| [line, "\n"])
-        .collect::<String>()
-        .into_bytes()
-}
-
 /// The call is refused with this number, as the verdict is, and everything is as it was, the answer too. Both slices have so many numbers.
 fn refused(number: u32, sheet: &[u8], entry: &[u8], numbers: usize) {
     let random = &mut Random(82);
@@ -439,23 +432,16 @@ fn refused(number: u32, sheet: &[u8], entry: &[u8], numbers: usize) {
 #[test]
 fn refusals_in_their_order() {
     let long = [b'6'; 4_097];
-    let (first, rule) = ("    1    1   46    0    0", "    1    4    1    1    1");
-    let (bad_first, bad_rule) = ("    1    2   46    0    0", "    0    9    1    1    1");
-    let (no_number, no_field) = ("    0    9    x    1    1", "    x    2   46    0    0");
-    let bad_kind = "    1    9    1    1    1";
-    refused(1, &lines(&[no_field, no_number])[..51], &long, 0);
-    refused(2, &lines(&[no_field, no_number]), &long, 0);
-    refused(2, &lines(&[first, no_number]), &long, 0);
-    refused(3, &lines(&[bad_first, no_number]), &long, 0);
-    refused(4, &lines(&[first, bad_rule]), &long, 0);
-    refused(5, &lines(&[first, bad_kind]), &long, 0);
-    let good = lines(&[first, rule]);
-    refused(6, &good, &long, 0);
-    refused(7, &good, &long[..4_096], 0);
-    refused(7, &good, b"", 2);
-    refused(7, &good, b"6", 4);
-    refused(7, &good, b"6.6.", 10);
-    refused(10, &good, b"66.", 7);
+    for (number, sheet) in questions::refused_sheets() {
+        refused(number, sheet.as_bytes(), &long, 0);
+    }
+    let good = G.as_bytes();
+    refused(6, good, &long, 0);
+    refused(7, good, &long[..4_096], 0);
+    refused(7, good, b"", 2);
+    refused(7, good, b"6", 4);
+    refused(7, good, b"6.6.", 10);
+    refused(10, good, b"66.", 7);
 }
 
 /// A reader's opening beside the recognizer and the verdict of a copy: the same table, and the same refusals, after which entry and table are as before.

@@ -1,5 +1,5 @@
-//! `Reader`: the marked entries, memory that grows and is used again, corrections, refusals with their lines and sentences, the line at fault of a
-//! reading; and random questions and corrections beside the calls over lent slices and the recognizer.
+//! `Reader`: the marked entries, memory that grows and is used again, corrections, further questions, refusals with their lines and sentences, the line at
+//! fault of a reading; and random questions, corrections and further questions beside the calls over lent slices and the recognizer.
 #[allow(dead_code)] // Other tests hand over tables that no call left.
 mod kept;
 mod marked_cases;
@@ -12,7 +12,7 @@ mod random;
 mod recognizer;
 
 use entryreader::{Answer, Claim, Error, Line, Pair, Reader, Refusal, Rule, Verdict, lent};
-use kept::Correction;
+use kept::Call;
 use marked_cases::{BEHIND, CELLS, G, H, I, J, READING, THROUGH_SECOND, cases};
 use met::Met;
 use questions::row;
@@ -372,6 +372,91 @@ fn opening_then_corrected() {
     assert_eq!((refused, reader.entry()), (Err(7), &b"666-666."[..]));
 }
 
+/// A further question may follow any answer: entry and table are those of the last one.
+#[test]
+fn further_after_each_call() {
+    let mut reader = reader(H);
+    let success = |end, cells| Ok(Answer::Success { end, cells });
+    assert!(reader.verdict(b"-6.").is_ok());
+    // At 1 there is no sign, and 3 is known.
+    assert_eq!(reader.further(1, 1), success(3, 2));
+    assert_eq!(reader.further(1, 1), success(3, 0));
+    // The sign at 0 stays, and the full stop at 2.
+    assert_eq!(reader.correct(1, b'7', 1, 1), success(3, 4));
+    assert_eq!(reader.further(1, 0), success(3, 1));
+    assert_eq!(reader.entry(), b"-7.");
+    assert!(reader.reading(b"6.").is_ok());
+    assert_eq!(reader.further(5, 1), success(2, 0));
+    // 1 and 2 at 1, where no sign stands, 3 and 4, where no digit does, and 6.
+    assert_eq!(reader.further(1, 1), Ok(Answer::Failure { cells: 5 }));
+    assert!(reader.opening(b"x.").is_ok());
+    assert_eq!(reader.further(6, 0), Ok(Answer::Failure { cells: 0 }));
+    assert_eq!(reader.further(6, 1), Ok(Answer::Failure { cells: 1 }));
+    assert_eq!(reader.ask(b"6.", 4, 0), success(1, 1));
+    assert_eq!(reader.further(3, 0), success(2, 2));
+    assert_eq!(reader.entry(), b"6.");
+}
+
+/// The rest of the longest entry, of which the verdict has read a run.
+#[test]
+fn longest_asked_further() {
+    let mut reader = reader(I);
+    let entry = [&[b'a'; 4_095][..], b"."].concat();
+    assert!(reader.verdict(&entry).is_ok());
+    let success = |end, cells| Ok(Answer::Success { end, cells });
+    assert_eq!(reader.further(1, 2_000), success(4_095, 0));
+    assert_eq!(reader.further(3, 0), success(0, 1));
+    // Behind the last byte there is none.
+    let named = Pair {
+        variable: 2,
+        position: 4_096,
+    };
+    let end = |cells| Ok(Answer::End { named, cells });
+    assert_eq!(reader.further(1, 4_096), end(2));
+    assert_eq!(reader.further(1, 4_096), end(0));
+}
+
+/// Before the first answer the entry is empty, and the table blank: it is the question about the empty entry.
+#[test]
+fn further_before_the_first_answer() {
+    let mut reader = reader(H);
+    let named = Pair {
+        variable: 2,
+        position: 0,
+    };
+    let end = |cells| Ok(Answer::End { named, cells });
+    assert_eq!(reader.further(1, 0), end(2));
+    assert_eq!(reader.further(1, 0), end(0));
+    assert_eq!(reader.further(6, 0), Ok(Answer::Failure { cells: 1 }));
+    let table = [4, 0, 4, 0, 0, 0, 0, 0, 0, 0, 1, 0];
+    assert_eq!((reader.entry(), reader.table()), (&b""[..], &table[..]));
+}
+
+/// 8 and 9, in this order, before the first answer and after it; entry and table stay.
+#[test]
+fn refused_further_questions() {
+    let mut reader = reader(H);
+    for entry in [&b""[..], b"-6."] {
+        if !entry.is_empty() {
+            assert!(reader.verdict(entry).is_ok());
+        }
+        let (table, n) = (reader.table().to_vec(), entry.len() as u32);
+        for (variable, position, number) in [
+            (0, 0, 8),
+            (7, 0, 8),
+            (7, n + 1, 8),
+            (u32::MAX, u32::MAX, 8),
+            (1, n + 1, 9),
+            (6, u32::MAX, 9),
+        ] {
+            let error = reader.further(variable, position);
+            let error = error.expect_err("it is refused");
+            assert_eq!((error.number(), error.line()), (number, None));
+            assert_eq!((reader.entry(), reader.table()), (entry, &table[..]));
+        }
+    }
+}
+
 /// The number that a correction is refused with.
 fn refused_correction(reader: &mut Reader, c: u32, Pair { variable, position }: Pair) -> u32 {
     let refused = reader.correct(c, b'x', variable, position);
@@ -412,7 +497,7 @@ fn refused_corrections() {
     assert_eq!(last, Ok(Answer::Failure { cells: 3 }));
 }
 
-/// Entries that are refused in between, one of which lets the slices grow: what was answered before is corrected.
+/// Entries that are refused in between, one of which lets the slices grow: what was answered before is asked further, and corrected.
 #[test]
 fn refused_entries_between() {
     let mut reader = reader(H);
@@ -427,6 +512,8 @@ fn refused_entries_between() {
         let answer = reader.ask(entry, 7, 0).map_err(|error| error.number());
         assert_eq!(answer, Err(of_question));
         assert_eq!((reader.entry(), reader.table()), (&b"-6."[..], &table[..]));
+        let answer = reader.further(3, 1);
+        assert_eq!(answer, Ok(Answer::Success { end: 3, cells: 0 }));
         let answer = reader.correct(2, b'.', 1, 0);
         assert_eq!(answer, Ok(Answer::Success { end: 3, cells: 3 }));
     }
@@ -742,41 +829,46 @@ fn random_question(random: &mut Random, met: &mut Met) {
     }
 }
 
-/// What is to be refused of a correction of an entry of n bytes.
-fn refused_by_document(variables: u32, n: u32, c: u32, asked: Pair) -> Option<u32> {
+/// What is to be refused of a call about an entry of n bytes.
+fn refused_by_document(variables: u32, n: u32, call: Call, asked: Pair) -> Option<u32> {
     let refusals = [
         (8, asked.variable == 0 || variables < asked.variable),
         (9, n < asked.position),
-        (18, n <= c),
+        (18, matches!(call, Call::Correction { c } if n <= c)),
     ];
     let first = refusals.into_iter().find(|(_, holds)| *holds);
     first.map(|(number, _)| number)
 }
 
-/// One correction: answer, count and cells are what document 02 and the recognizer say, and a fresh reader answers the same; or it is refused, and
-/// entry and table stay.
-fn correct(reader: &mut Reader, (c, byte): (u32, u8), asked: Pair, met: &mut Met) {
+/// A further question, or a correction to this byte: answer, count and cells are what document 02 and the recognizer say, and a fresh reader answers the
+/// same; or it is refused, and entry and table stay.
+fn over_kept(reader: &mut Reader, call: Call, byte: u8, asked: Pair, met: &mut Met) {
     let (mut entry, table) = (reader.entry().to_vec(), reader.table().to_vec());
-    let correction = Correction {
-        n: u32::try_from(entry.len()).expect("few"),
-        c,
+    let n = u32::try_from(entry.len()).expect("few");
+    let (name, found) = match call {
+        Call::Correction { c } => {
+            let found = reader.correct(c, byte, asked.variable, asked.position);
+            ("correct", found)
+        }
+        _ => ("further", reader.further(asked.variable, asked.position)),
     };
-    let found = reader.correct(c, byte, asked.variable, asked.position);
-    met.found("correct", &found, kind);
-    let refused = refused_by_document(reader.variables(), correction.n, c, asked);
+    met.found(name, &found, kind);
+    let refused = refused_by_document(reader.variables(), n, call, asked);
     if let Some(number) = refused {
         assert_eq!(found.map_err(|error| error.number()), Err(number));
         assert_eq!((reader.entry(), reader.table()), (&entry[..], &table[..]));
         return;
     }
-    entry[c as usize] = byte;
+    if let Call::Correction { c } = call {
+        entry[c as usize] = byte;
+    }
     let question = Question {
         sheet: reader.sheet(),
         entry: &entry,
         asked,
     };
     let reached = recognizer::question(question, usize::MAX, usize::MAX).expect("it is accepted");
-    let (cells, newly) = kept::left(&reached.table, &correction.retained(&table));
+    let (cells, newly) = kept::left(&reached.table, &call.retained(n, &table));
     assert_eq!(found, Ok(reached.answer(newly)));
     assert_eq!((reader.entry(), reader.table()), (&entry[..], &cells[..]));
     let mut fresh = Reader::new(reader.sheet()).expect("it was accepted");
@@ -796,7 +888,7 @@ fn to_correct(random: &mut Random, variables: u32, n: u32) -> (u32, Pair) {
     (c, Pair { variable, position })
 }
 
-/// A call before a correction. Only one that is answered has its entry corrected.
+/// A call before one over what is kept. Only the entry of one that is answered is kept.
 fn call_between(random: &mut Random, reader: &mut Reader, met: &mut Met) {
     let length = random.index(20);
     let other = questions::entry(random, length);
@@ -813,9 +905,9 @@ fn call_between(random: &mut Random, reader: &mut Reader, met: &mut Met) {
     met.found(call, &found, |()| "answered".to_string());
 }
 
-/// Corrections one after the other, with other calls between them.
+/// Corrections and further questions one after the other, with other calls between them.
 #[test]
-fn corrections() {
+fn corrections_and_further_questions() {
     let (mut random, mut met) = (Random(32), Met::default());
     for _ in 0..4_000 {
         let variables = 1 + random.below(16);
@@ -831,7 +923,8 @@ fn corrections() {
             let n = u32::try_from(reader.entry().len()).expect("few");
             let (c, asked) = to_correct(&mut random, reader.variables(), n);
             let byte = random.pick(b"a\xE9\xE9b\xC9-6A\xA0 \xD7!\x80.");
-            correct(&mut reader, (c, byte), asked, &mut met);
+            let call = random.pick(&[Call::Correction { c }, Call::Further]);
+            over_kept(&mut reader, call, byte, asked, &mut met);
         }
     }
     let possible = [
@@ -843,6 +936,13 @@ fn corrections() {
         "correct refused 8",
         "correct refused 9",
         "correct refused 18",
+        "further success",
+        "further failure",
+        "further loop",
+        "further missing",
+        "further end",
+        "further refused 8",
+        "further refused 9",
         "verdict answered",
         "verdict refused 7",
         "opening answered",

@@ -1,4 +1,4 @@
-//! Every refusal that the two calls have, 1 to 10, under its conditions and in its order; nothing is changed by one.
+//! Every refusal that verdict, question and further question have, 1 to 10, under its conditions and in its order; nothing is changed by one.
 use entryreader::{Code, Refusal, lent};
 
 const GOOD: &str =
@@ -9,7 +9,7 @@ fn verdict(sheet: &[u8], entry: &[u8]) -> Result<Code, Refusal> {
     lent::verdict(sheet, entry).map_err(|error| error.refusal())
 }
 
-fn refused_by_both(sheet: &[u8], entry: &[u8], number: u32) {
+fn refused_by_all(sheet: &[u8], entry: &[u8], number: u32) {
     let refusal = Refusal::from_number(number).unwrap();
     assert_eq!(
         verdict(sheet, entry),
@@ -20,6 +20,7 @@ fn refused_by_both(sheet: &[u8], entry: &[u8], number: u32) {
     question_refused(sheet, entry, 1, 0, 1024, 1024, number);
 }
 
+/// The table holds what brings a further question under 19, which comes last.
 fn question_refused(
     sheet: &[u8],
     entry: &[u8],
@@ -30,15 +31,17 @@ fn question_refused(
     number: u32,
 ) {
     let refusal = Refusal::from_number(number).unwrap();
-    let (mut table, mut work) = (vec![7; table], vec![9; work]);
-    let answer = lent::question(sheet, entry, variable, position, &mut table, &mut work);
-    assert_eq!(
-        answer.map_err(|error| error.refusal()),
-        Err(refusal),
-        "{}",
-        String::from_utf8_lossy(sheet)
-    );
-    assert!(table.iter().all(|x| *x == 7) && work.iter().all(|x| *x == 9));
+    let (mut table, mut work) = (vec![u32::MAX; table], vec![9; work]);
+    for call in [lent::question, lent::further] {
+        let answer = call(sheet, entry, variable, position, &mut table, &mut work);
+        assert_eq!(
+            answer.map_err(|error| error.refusal()),
+            Err(refusal),
+            "{}",
+            String::from_utf8_lossy(sheet)
+        );
+        assert!(table.iter().all(|x| *x == u32::MAX) && work.iter().all(|x| *x == 9));
+    }
 }
 
 /// The good sheet with one line in the position of another, counted from 1.
@@ -55,12 +58,12 @@ fn good_sheet() {
 
 #[test]
 fn one_not_lines() {
-    refused_by_both(b"", b".", 1);
-    refused_by_both(&GOOD.as_bytes()[..77], b".", 1);
-    refused_by_both((GOOD.to_string() + " ").as_bytes(), b".", 1);
-    refused_by_both(GOOD.replacen('\n', " ", 1).as_bytes(), b".", 1);
+    refused_by_all(b"", b".", 1);
+    refused_by_all(&GOOD.as_bytes()[..77], b".", 1);
+    refused_by_all((GOOD.to_string() + " ").as_bytes(), b".", 1);
+    refused_by_all(GOOD.replacen('\n', " ", 1).as_bytes(), b".", 1);
     let line = "    1    0    0    0    0\n";
-    refused_by_both(line.repeat(258).as_bytes(), b".", 1);
+    refused_by_all(line.repeat(258).as_bytes(), b".", 1);
 }
 
 #[test]
@@ -73,10 +76,10 @@ fn two_fields() {
         "   +2    1   46    0    0",
         "    2    1  -46    0    0",
     ] {
-        refused_by_both(&with_line(1, line), b".", 2);
+        refused_by_all(&with_line(1, line), b".", 2);
     }
-    refused_by_both(&with_line(2, "    1    4    2    2   \n2"), b".", 2);
-    refused_by_both(&with_line(3, "    9    9    x    0    0"), b".", 2);
+    refused_by_all(&with_line(2, "    1    4    2    2   \n2"), b".", 2);
+    refused_by_all(&with_line(3, "    9    9    x    0    0"), b".", 2);
 }
 
 #[test]
@@ -91,16 +94,16 @@ fn three_line_1() {
         "    2    1   46    1    0",
         "    2    1   46    0    1",
     ] {
-        refused_by_both(&with_line(1, line), b".", 3);
+        refused_by_all(&with_line(1, line), b".", 3);
     }
 }
 
 #[test]
 fn four_variables() {
-    refused_by_both(&with_line(2, "    0    4    2    2    2"), b".", 4);
-    refused_by_both(&with_line(2, "    3    4    2    2    2"), b".", 4);
-    refused_by_both(&with_line(3, "    1    2   97    0    0"), b".", 4);
-    refused_by_both(&with_line(3, "    1    9   97    0    0"), b".", 4);
+    refused_by_all(&with_line(2, "    0    4    2    2    2"), b".", 4);
+    refused_by_all(&with_line(2, "    3    4    2    2    2"), b".", 4);
+    refused_by_all(&with_line(3, "    1    2   97    0    0"), b".", 4);
+    refused_by_all(&with_line(3, "    1    9   97    0    0"), b".", 4);
 }
 
 #[test]
@@ -118,13 +121,13 @@ fn five_rules() {
         "    2    4    1    3    1",
         "    2    4    1    1    0",
     ] {
-        refused_by_both(&with_line(3, line), b".", 5);
+        refused_by_all(&with_line(3, line), b".", 5);
     }
 }
 
 #[test]
 fn six_long_entry() {
-    refused_by_both(GOOD.as_bytes(), &[b'a'; 4097], 6);
+    refused_by_all(GOOD.as_bytes(), &[b'a'; 4097], 6);
     question_refused(GOOD.as_bytes(), &[b'a'; 4097], 0, 9999, 0, 0, 6);
 }
 
@@ -156,8 +159,10 @@ fn ten_room() {
     for (table, work) in [(11, 6), (12, 5), (6, 12), (0, 0)] {
         question_refused(GOOD.as_bytes(), b"aa", 2, 2, table, work, 10);
     }
-    let end = lent::question(GOOD.as_bytes(), b"aa", 2, 2, &mut [0; 12], &mut [0; 6]);
-    assert!(end.is_ok());
+    for call in [lent::question, lent::further] {
+        let end = call(GOOD.as_bytes(), b"aa", 2, 2, &mut [0; 12], &mut [0; 6]);
+        assert!(end.is_ok());
+    }
     let mut entry = vec![b'a'; 511];
     *entry.last_mut().unwrap() = b'.';
     assert_eq!(verdict(GOOD.as_bytes(), &entry), Ok(Code::Partial));

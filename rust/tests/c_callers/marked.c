@@ -2,7 +2,7 @@
  * Puts cases through every exported call, and prints what each returns and the numbers that it leaves.
  *
  * A case on standard input is a rule sheet, or a text of the shorthand, and then an entry, each as its length, a line feed and its bytes. Every question is
- * about variable 1 at 0. What is lent is filled with 7 before.
+ * about variable 1 at 0, but for the further one, which is about variable 1 behind the last byte. What is lent is filled with 7 before.
  */
 #include "entryreader.h"
 #include <stdio.h>
@@ -90,7 +90,7 @@ static void opening(void)
     print("table", table, SHOWN);
 }
 
-/* The question, and a correction of the byte at 0 to what it is. */
+/* The question, a correction of the byte at 0 to what it is, and a further question, over one table. */
 static void questions(void)
 {
     uint32_t answer[4];
@@ -103,6 +103,11 @@ static void questions(void)
     returned = entryreader_correct(
         sheet, sheet_length, entry, entry_length, 1, 0, 0, table, NUMBERS, work, CELLS, &answer);
     report("correct", returned, answer, 4);
+    print("table", table, SHOWN);
+    fill(answer, 4);
+    returned = entryreader_further(
+        sheet, sheet_length, entry, entry_length, 1, (uint32_t)entry_length, table, NUMBERS, work, CELLS, &answer);
+    report("further", returned, answer, 4);
     print("table", table, SHOWN);
 }
 

@@ -1,9 +1,12 @@
 //! Each call beside the recognizer: what it returns, its answer, and every lent slice with the guards around it.
+use crate::kept::{self, Call};
 use crate::lent::Lent;
 use crate::questions::{self, Case};
 use crate::random::Random;
-use crate::recognizer::{self, Answered, Ending, Opened, Outcome, Ran, Size, Written, bytes, code};
-use entryreader::{Claim, Pair, lent as exported, test_calls};
+use crate::recognizer::{
+    self, Answered, Ending, Opened, Outcome, Question, Ran, Size, Written, bytes, code,
+};
+use entryreader::{Answer, Claim, Error, Pair, lent as exported, test_calls};
 use std::collections::{BTreeMap, BTreeSet};
 
 const OUTCOMES: &[&str] = &["success", "failure", "loop", "missing", "end"];
@@ -11,9 +14,10 @@ const OUTCOMES: &[&str] = &["success", "failure", "loop", "missing", "end"];
 const VERDICTS: &[&str] = &["recognised", "partial", "failure", "loop", "missing", "end"];
 
 /// What each call can say, and the numbers of its refusals; and how many cells a question decides.
-const ANSWERS: [(&str, &[&str], &[u32]); 9] = [
+const ANSWERS: [(&str, &[&str], &[u32]); 10] = [
     ("sheet", &["read"], &[1, 2, 3, 4, 5]),
     ("question", OUTCOMES, &[1, 2, 3, 4, 5, 6, 8, 9, 10]),
+    ("further", OUTCOMES, &[1, 2, 3, 4, 5, 6, 8, 9, 10, 19]),
     ("verdict", VERDICTS, &[1, 2, 3, 4, 5, 6, 7, 10]),
     ("judge", VERDICTS, &[1, 2, 3, 4, 5, 6, 7, 10]),
     (
@@ -77,27 +81,41 @@ fn opened(least: Option<usize>) -> String {
     opened.to_string()
 }
 
-/// The question as the program asks it.
-fn as_program(case: &Case, table: usize, work: usize, expected: &Result<Answered, u32>) {
-    let (mut table, mut work) = (vec![7; table], vec![7; work]);
+/// An outcome that is at fault at every place of an entry of n bytes.
+fn random_fault(random: &mut Random, n: u32) -> u32 {
+    random.pick(&[6 + n, 7 + n, 1 << 31, u32::MAX])
+}
+
+/// What is to be said of a further question over a kept table, or one with a cell at fault: the answer, the cells afterwards and how many of them are new.
+fn further_by_document(
+    case: &Case,
+    table: &[u32],
+    work: usize,
+) -> Result<(Answered, Vec<u32>, u32), u32> {
+    let found = recognizer::question(case.question(), table.len(), work)?;
+    let cells = &table[..found.table.len()];
+    if let Some(number) = Call::Further.refused(case.entry.len() as u32, cells) {
+        return Err(number);
+    }
+    let (cells, newly) = kept::left(&found.table, cells);
+    Ok((found, cells, newly))
+}
+
+/// A question or a further one as a program asks it.
+type Exported = fn(&[u8], &[u8], u32, u32, &mut [u32], &mut [u32]) -> Result<Answer, Error>;
+
+fn as_program(
+    call: Exported,
+    case: &Case,
+    mut table: Vec<u32>,
+    work: usize,
+    expected: Result<Answer, u32>,
+) {
     let Pair { variable, position } = case.asked;
-    let found = exported::question(
-        &case.sheet,
-        &case.entry,
-        variable,
-        position,
-        &mut table,
-        &mut work,
-    );
+    let (sheet, entry, mut work) = (&case.sheet, &case.entry, vec![7; work]);
+    let found = call(sheet, entry, variable, position, &mut table, &mut work);
     let found = found.map_err(|error| error.number());
-    assert_eq!(
-        found,
-        expected
-            .as_ref()
-            .map(|found| found.answer(found.cells))
-            .map_err(|n| *n),
-        "{case}"
-    );
+    assert_eq!(found, expected, "{case}");
 }
 
 /// The checker as the program calls it.
@@ -223,7 +241,62 @@ impl Comparison {
         if let Ok(found) = &expected {
             self.count("cells", decided(found.cells));
         }
-        as_program(case, table, work, &expected);
+        let expected = expected.map(|found| found.answer(found.cells));
+        as_program(exported::question, case, vec![7; table], work, expected);
+    }
+
+    /// A table of so many numbers: what a question about another pair leaves of a blank one, as the recognizer says, sometimes with a cell at fault.
+    fn kept_table(&mut self, case: &Case, numbers: usize) -> Vec<u32> {
+        let asked = Pair {
+            variable: 1 + self.random.below(4) as u32,
+            position: self.random.index(case.entry.len() + 1) as u32,
+        };
+        let other = Question {
+            asked,
+            ..case.question()
+        };
+        let found = recognizer::question(other, usize::MAX, usize::MAX);
+        let mut table = found.map_or_else(|_| vec![0; 2 * case.cells], |found| found.table);
+        let at = 2 * self.random.index(table.len() / 2);
+        if self.random.one_in(8) {
+            table[at] = random_fault(&mut self.random, case.entry.len() as u32);
+        }
+        table.resize(numbers, u32::MAX);
+        table
+    }
+
+    /// The further question over such a table.
+    pub fn further(&mut self, case: &Case, table: usize, work: usize) {
+        let before = self.kept_table(case, table);
+        let expected = further_by_document(case, &before, work);
+        let mut handed = Handed::new(&mut self.random, case);
+        let mut room = Room::new(&mut self.random, [0, work, 0], 4);
+        room.table = Lent::of(&mut self.random, &before);
+        let returned = test_calls::further(
+            handed.sheet.slice(),
+            handed.entry.slice(),
+            case.asked.variable,
+            case.asked.position,
+            room.table.slice(),
+            room.work.slice(),
+            room.answer.array(),
+        );
+        let (code, same, what) = match &expected {
+            Ok((found, cells, newly)) => (
+                0,
+                room.holds(&found.numbers(*newly), cells, &[]),
+                name(found.outcome),
+            ),
+            Err(number) => (100 + number, room.unchanged(), refused(*number)),
+        };
+        let answer = room.answer.slice();
+        assert!(
+            returned == code && same && handed.unchanged(),
+            "further over {table}, {work}: {returned} {answer:?}, not {what}\n{case}"
+        );
+        self.count("further", what);
+        let expected = expected.map(|(found, _, newly)| found.answer(newly));
+        as_program(exported::further, case, before, work, expected);
     }
 
     pub fn sheet(&mut self, case: &Case) {
@@ -500,6 +573,7 @@ impl Comparison {
         let [table, work, output] = self.lengths(case.cells);
         self.sheet(case);
         self.question(case, table, work);
+        self.further(case, table, work);
         self.verdict(case);
         self.judge(case, table, work);
         // Of longer entries the recognizer would try too many openings.

@@ -1,4 +1,4 @@
-//! What a correction does to the cells of a table before it asks, and what it leaves: document 02, orders 4 and 6, over tables of just V times (n + 1)
+//! What a call does to the cells of a table before it asks, and what it leaves: document 02, orders 4, 6 and 8, over tables of just V times (n + 1)
 //! cells.
 
 /// A cell: "two numbers side by side, outcome then reach, both 0 when blank".
@@ -14,13 +14,6 @@ pub fn is_result(outcome: u32) -> bool {
     outcome == 1 || SUCCESS <= outcome
 }
 
-/// A correction of the byte at c, in an entry of n bytes.
-#[derive(Clone, Copy, Debug)]
-pub struct Correction {
-    pub n: u32,
-    pub c: u32,
-}
-
 /// What brings a cell under 19.
 #[derive(Clone, Copy, Debug, PartialEq, Eq, PartialOrd, Ord)]
 pub enum Fault {
@@ -32,49 +25,67 @@ pub enum Fault {
     Reach,
 }
 
-impl Correction {
-    /// The cells of a table, each with its place.
-    pub fn cells(self, table: &[u32]) -> impl Iterator<Item = (u32, Cell)> {
-        let places = (0..=self.n).cycle();
-        places.zip(table.as_chunks().0.iter().copied())
+/// What is at fault in a cell at a place of an entry of n bytes.
+fn fault(n: u32, place: u32, [outcome, reach]: Cell) -> Option<Fault> {
+    if 5 + n < outcome {
+        Some(Fault::Over)
+    } else if SUCCESS <= outcome && outcome - SUCCESS < place {
+        Some(Fault::Left)
+    } else if is_result(outcome) && reach < place {
+        Some(Fault::Reach)
+    } else {
+        None
     }
+}
 
-    /// "It blanks cells at places up to c, retains the others"; "success and failure cells .. with reach at most c stay also".
+/// The cells of a table of an entry of n bytes, each with its place.
+pub fn cells(n: u32, table: &[u32]) -> impl Iterator<Item = (u32, Cell)> {
+    let places = (0..=n).cycle();
+    places.zip(table.as_chunks().0.iter().copied())
+}
+
+/// A call about an entry of n bytes, over a table that is lent to it.
+#[derive(Clone, Copy, Debug, PartialEq, Eq)]
+pub enum Call {
+    Question,
+    Further,
+    /// Of the byte at c.
+    Correction {
+        c: u32,
+    },
+}
+
+impl Call {
+    /// A correction "blanks cells at places up to c, retains the others"; "success and failure cells .. with reach at most c stay also". "A further
+    /// question blanks nothing."
     pub fn stays(self, place: u32, [outcome, reach]: Cell) -> bool {
-        self.c < place || (is_result(outcome) && reach <= self.c)
+        match self {
+            Call::Question => false,
+            Call::Further => true,
+            Call::Correction { c } => c < place || (is_result(outcome) && reach <= c),
+        }
     }
 
     /// What it retains of a table.
-    pub fn retained(self, table: &[u32]) -> Vec<u32> {
+    pub fn retained(self, n: u32, table: &[u32]) -> Vec<u32> {
         let kept = |(place, cell)| {
             if self.stays(place, cell) { cell } else { BLANK }
         };
-        self.cells(table).flat_map(kept).collect()
+        cells(n, table).flat_map(kept).collect()
     }
 
     /// What is at fault in a cell, if it is retained.
-    pub fn fault(self, place: u32, cell: Cell) -> Option<Fault> {
-        let [outcome, reach] = cell;
-        let fault = if 5 + self.n < outcome {
-            Fault::Over
-        } else if SUCCESS <= outcome && outcome - SUCCESS < place {
-            Fault::Left
-        } else if is_result(outcome) && reach < place {
-            Fault::Reach
-        } else {
-            return None;
-        };
-        self.stays(place, cell).then_some(fault)
+    pub fn fault(self, n: u32, place: u32, cell: Cell) -> Option<Fault> {
+        fault(n, place, cell).filter(|_| self.stays(place, cell))
     }
 
     /// The first of 18 and 19 that holds.
-    pub fn refused(self, table: &[u32]) -> Option<u32> {
-        if self.n <= self.c {
+    pub fn refused(self, n: u32, table: &[u32]) -> Option<u32> {
+        if matches!(self, Call::Correction { c } if n <= c) {
             return Some(18);
         }
-        let mut cells = self.cells(table);
-        let at_fault = cells.any(|(place, cell)| self.fault(place, cell).is_some());
-        at_fault.then_some(19)
+        let at_fault = |(place, cell)| self.fault(n, place, cell).is_some();
+        cells(n, table).any(at_fault).then_some(19)
     }
 }
 

@@ -135,6 +135,23 @@ pub fn sheet(random: &mut Random, variables: u64) -> Vec<u8> {
     text.into_bytes()
 }
 
+/// Sheets that are refused, with their number: each has all the faults that come behind the one that counts.
+pub fn refused_sheets() -> [(u32, String); 6] {
+    let (first, bad_first) = ("    1    1   46    0    0\n", "    1    2   46    0    0\n");
+    let (bad_rule, bad_kind) = ("    0    9    1    1    1\n", "    1    9    1    1    1\n");
+    let (no_number, no_field) = ("    0    9    x    1    1\n", "    x    2   46    0    0\n");
+    let cut = &no_number[..25];
+    [
+        (1, [no_field, cut]),
+        (2, [no_field, no_number]),
+        (2, [first, no_number]),
+        (3, [bad_first, no_number]),
+        (4, [first, bad_rule]),
+        (5, [first, bad_kind]),
+    ]
+    .map(|(number, lines)| (number, lines.concat()))
+}
+
 /// The bytes of most entries. However many of them are taken from the front, as many are from 128 on as are letters below 128, or more.
 const BYTES: [u8; 16] = [
     233, 233, b'a', b'a', 201, b'b', b'-', b'6', 160, b'A', b' ', 215, b'!', 128, 0, b'.',

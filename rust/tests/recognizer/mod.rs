@@ -503,6 +503,32 @@ pub fn size(question: Question) -> Option<Size> {
         .then(|| recognizer.size(asked, &mut HashMap::new()))
 }
 
+/// How a walk comes to a pair.
+#[derive(Clone, Copy, Debug, PartialEq, Eq, Hash)]
+pub enum Come {
+    Asked,
+    First,
+    Second,
+}
+
+/// How a walk that begins where some results are known comes to which pairs: behind a known result it comes to none.
+pub fn walked(question: Question, known: impl Fn(Pair) -> bool) -> HashSet<(Come, Pair)> {
+    let sheet = question.admit().expect("it is accepted");
+    let mut recognizer = Recognizer::new(&sheet, question.entry);
+    let mut left = vec![(Come::Asked, question.asked)];
+    let mut found = HashSet::new();
+    while let Some((come, pair)) = left.pop() {
+        if found.insert((come, pair)) && !known(pair) {
+            left.extend(
+                [Come::First, Come::Second]
+                    .into_iter()
+                    .zip(recognizer.called(pair)),
+            );
+        }
+    }
+    found
+}
+
 /// The recognizer calls itself as deep as a walk is long.
 pub fn with_deep_stack(test: fn()) {
     let thread = std::thread::Builder::new().stack_size(1 << 30).spawn(test);

@@ -1,0 +1,560 @@
+//! Further questions over one table: chains of questions, further questions and corrections beside the separate recognizer, two in either order, counts,
+//! refusals, and tables that no call left.
+mod kept;
+#[allow(dead_code)] // Other tests change lent numbers.
+mod lent;
+#[allow(dead_code)] // Other tests ask the other cases.
+mod marked_cases;
+#[allow(dead_code)] // Other tests count what a call found.
+mod met;
+#[allow(dead_code, unused_imports)] // Other tests damage sheets, and make readings.
+mod questions;
+mod random;
+#[allow(dead_code, unused_imports)] // Other tests run the machine, and check readings.
+mod recognizer;
+#[allow(dead_code)] // Other sheets are measured with.
+#[path = "../benches/benchmark/sheets.rs"]
+mod sheets;
+#[allow(dead_code)] // Other tests correct only.
+mod tables;
+
+use entryreader::{Answer, Pair, Refusal};
+use kept::{Call, Cell, Fault};
+use marked_cases::{CELLS, H, I};
+use met::Met;
+use random::Random;
+use recognizer::{Answered, code, with_deep_stack};
+use std::collections::{BTreeMap, BTreeSet};
+use std::io::Write;
+use tables::{Case, START, any_cells, loops, one_cell, two_rules};
+
+fn pair(variable: u32, position: u32) -> Pair {
+    Pair { variable, position }
+}
+
+/// The name of what a cell holds.
+fn held(outcome: u32) -> &'static str {
+    let names = ["blank", "failure", "loop", "missing", "end", "success"];
+    names[outcome.min(5) as usize]
+}
+
+fn name(call: Call) -> &'static str {
+    match call {
+        Call::Question => "question",
+        Call::Further => "further",
+        Call::Correction { .. } => "correction",
+    }
+}
+
+/// A case with its table: blank at first, with some numbers behind it.
+struct Kept {
+    case: Case,
+    table: Vec<u32>,
+    last: &'static str,
+}
+
+impl Kept {
+    fn new(case: Case) -> Kept {
+        let mut table = vec![0; 2 * case.cells()];
+        table.extend([u32::MAX, 7, 9]);
+        Kept {
+            case,
+            table,
+            last: "nothing",
+        }
+    }
+
+    /// One call of any kind, beside the recognizer.
+    fn call(&mut self, random: &mut Random, met: &mut Met) {
+        let call = match random.below(7) {
+            0 => Call::Question,
+            1 | 2 if !self.case.entry.is_empty() => {
+                self.case.correct(random);
+                self.case.last_correction()
+            }
+            _ => Call::Further,
+        };
+        let asked = self.case.pair(random);
+        if call == Call::Further {
+            self.note(asked, met);
+        }
+        let (found, _) = self.case.compared(random, call, asked, &mut self.table);
+        let (call, outcome) = (name(call), held(code(found.outcome)));
+        met.count(format!("{call} {outcome}"));
+        met.count(format!("{call} after {}", self.last));
+        self.last = call;
+    }
+
+    /// Counts how a further question comes to which cells, each kind once.
+    fn note(&self, asked: Pair, met: &mut Met) {
+        let row = self.case.entry.len() + 1;
+        let outcome = |pair: Pair| {
+            let at = (pair.variable as usize - 1) * row + pair.position as usize;
+            self.table[2 * at]
+        };
+        let known = |pair| kept::is_result(outcome(pair));
+        let walked = recognizer::walked(self.case.about(asked), known);
+        let kinds = walked
+            .into_iter()
+            .map(|(come, pair)| format!("{come:?} {}", held(outcome(pair))));
+        let kinds = BTreeSet::from_iter(kinds);
+        kinds.into_iter().for_each(|kind| met.count(kind));
+    }
+}
+
+/// Everything that chains meet: what each call is answered and which call it follows; and how a further question comes to which cells.
+#[rustfmt::skip]
+const POSSIBLE: [&str; 45] = [
+    "question success", "question failure", "question loop", "question missing", "question end",
+    "further success", "further failure", "further loop", "further missing", "further end",
+    "correction success", "correction failure", "correction loop", "correction missing", "correction end",
+    "question after nothing", "question after question", "question after further", "question after correction",
+    "further after nothing", "further after question", "further after further", "further after correction",
+    "correction after nothing", "correction after question", "correction after further", "correction after correction",
+    "Asked blank", "Asked success", "Asked failure", "Asked loop", "Asked missing", "Asked end",
+    "First blank", "First success", "First failure", "First loop", "First missing", "First end",
+    "Second blank", "Second success", "Second failure", "Second loop", "Second missing", "Second end",
+];
+
+/// Chains of one to eight calls over one table, with short entries.
+#[test]
+fn chains() {
+    let (mut random, mut met) = (Random(80), Met::default());
+    for _ in 0..15_000 {
+        let variables = 1 + random.below(16);
+        let length = random.index(12);
+        let mut kept = Kept::new(Case::random(&mut random, variables, length));
+        for _ in 0..1 + random.below(8) {
+            kept.call(&mut random, &mut met);
+        }
+    }
+    met.assert_met(&POSSIBLE, 200);
+}
+
+/// Two pairs asked one after the other over a kept table, in either order: each is answered as on a fresh table, and the two tables are the same. Together
+/// they newly decide the pairs that are reached from either and were blank. Whether some of them are reached from both.
+fn either_order(random: &mut Random, kept: &Kept) -> bool {
+    let asked = [(); 2].map(|()| kept.case.pair(random));
+    let mut ask = |order: [usize; 2]| {
+        let mut table = kept.table.clone();
+        let mut answers = [[0; 4]; 2];
+        for i in order {
+            let (found, newly) = kept
+                .case
+                .compared(random, Call::Further, asked[i], &mut table);
+            answers[i] = found.numbers(newly);
+        }
+        (answers, table)
+    };
+    let ((one, one_table), (other, other_table)) = (ask([0, 1]), ask([1, 0]));
+    assert_eq!(one_table, other_table, "{asked:?} {}", kept.case);
+    let heard = |answers: [[u32; 4]; 2]| {
+        answers.map(|[code, variable, position, _]| [code, variable, position])
+    };
+    assert_eq!(heard(one), heard(other), "{asked:?} {}", kept.case);
+    let reached = asked.map(|asked| kept.case.answered(asked));
+    let (either, both) = newly_reached(&kept.table, &reached);
+    for answers in [one, other] {
+        assert_eq!(
+            answers[0][3] + answers[1][3],
+            either,
+            "{asked:?} {}",
+            kept.case
+        );
+    }
+    0 < both
+}
+
+/// How many blank cells of a table are those of pairs that are reached from either of two, and how many of pairs reached from both.
+fn newly_reached(table: &[u32], [one, other]: &[Answered; 2]) -> (u32, u32) {
+    let outcomes = |table: &[u32]| {
+        table
+            .iter()
+            .step_by(2)
+            .map(|outcome| *outcome != 0)
+            .collect()
+    };
+    let [held, one, other]: [Vec<bool>; 3] = [table, &one.table, &other.table].map(outcomes);
+    let blank = one
+        .into_iter()
+        .zip(other)
+        .zip(held)
+        .filter(|(_, held)| !held);
+    let (mut either, mut both) = (0, 0);
+    for ((one, other), _) in blank {
+        either += u32::from(one || other);
+        both += u32::from(one && other);
+    }
+    (either, both)
+}
+
+/// From a blank table, and from one that some calls have left.
+#[test]
+fn in_either_order() {
+    let (mut random, mut met) = (Random(81), Met::default());
+    let mut shared = BTreeMap::<_, u64>::new();
+    for _ in 0..8_000 {
+        let variables = 1 + random.below(16);
+        let length = random.index(12);
+        let mut kept = Kept::new(Case::random(&mut random, variables, length));
+        for _ in 0..random.below(4) {
+            kept.call(&mut random, &mut met);
+        }
+        let both = either_order(&mut random, &kept);
+        *shared.entry((kept.last, both)).or_default() += 1;
+    }
+    assert_eq!(shared.len(), 8, "{shared:?}");
+    assert!(shared.values().all(|met| 50 < *met), "{shared:?}");
+}
+
+/// Entries of up to 4,096 bytes, and sheets of up to 256 variables.
+#[test]
+#[ignore = "a command of its own: see docs/CONTRIBUTING.md"]
+fn longer_chains() {
+    with_deep_stack(many_longer_chains);
+}
+
+fn many_longer_chains() {
+    let seed = std::env::var("COMPARE_SEED").map_or(82, |seed| seed.parse().expect("a number"));
+    let (mut random, mut met) = (Random(seed), Met::default());
+    for _ in 0..8_000 {
+        let (variables, most) = match random.below(4) {
+            0 => (1 + random.below(256), 400),
+            _ => (1 + random.below(24), 4096),
+        };
+        let length = random.index(most + 1);
+        let mut kept = Kept::new(Case::random(&mut random, variables, length));
+        for _ in 0..1 + random.below(8) {
+            kept.call(&mut random, &mut met);
+        }
+        either_order(&mut random, &kept);
+    }
+    // Not `println!`, which a passing test would keep to itself.
+    writeln!(std::io::stdout().lock(), "\nseed {seed}: {met}").expect("it is printed");
+    met.assert_met(&POSSIBLE, 300);
+}
+
+/// Case a by hand, from a blank table. The digit first; then the whole entry, which reads all but the digit; then what is known, and what is not: a sign
+/// at 1, and what stands behind the entry, where the byte that is not there is named.
+#[test]
+fn case_a() {
+    let mut random = Random(83);
+    let case = Case::new(H, b"-6.", 0);
+    let mut table = vec![0; 2 * case.cells()];
+    for (asked, said) in [(pair(4, 1), [7, 0, 0, 1]), (pair(1, 0), [8, 0, 0, 4])] {
+        assert_eq!(
+            case.further(&mut random, asked, &mut table),
+            Ok(said),
+            "{asked:?}"
+        );
+    }
+    assert_eq!(table, CELLS.concat());
+    for (asked, said) in [
+        (pair(1, 0), [8, 0, 0, 0]),
+        (pair(3, 1), [8, 0, 0, 0]),
+        // 1 and 2 at 1, where no sign stands; 3 is known there.
+        (pair(1, 1), [8, 0, 0, 2]),
+        (pair(3, 3), [4, 4, 3, 2]),
+        (pair(3, 3), [4, 4, 3, 0]),
+        // 1 at 3 asks for a sign.
+        (pair(1, 3), [4, 2, 3, 2]),
+        // 6 fails wherever it stands.
+        (pair(6, 3), [1, 0, 0, 1]),
+    ] {
+        assert_eq!(
+            case.further(&mut random, asked, &mut table),
+            Ok(said),
+            "{asked:?}"
+        );
+    }
+    let rows = [
+        [8, 3, 8, 3, 0, 0, 4, 0],
+        [6, 1, 1, 2, 0, 0, 4, 0],
+        [0, 0, 8, 3, 0, 0, 4, 0],
+        [0, 0, 7, 2, 0, 0, 4, 0],
+        [0, 0, 0, 0, 8, 3, 0, 0],
+        [0, 0, 0, 0, 0, 0, 1, 3],
+    ];
+    assert_eq!(table, rows.concat());
+}
+
+/// A loop, a missing rule and an end that the table holds are walked to again, so that their pair is named: where the pair is asked for again, and where it
+/// is come to from another. Nothing of them is new.
+#[test]
+fn retained_loops() {
+    let mut random = Random(84);
+    let case = loops(b"aaa", 0);
+    for (first, again, asked, said) in [
+        // 1 at 1 takes the a and comes to 3 at 2, which waits for itself.
+        (pair(1, 1), [2, 3, 2, 0], pair(3, 2), [2, 3, 2, 0]),
+        (pair(3, 2), [2, 3, 2, 0], pair(1, 1), [2, 3, 2, 2]),
+        // 5 at 1 takes the a and comes to 4 at 2, which has no rule.
+        (pair(5, 1), [3, 4, 2, 0], pair(4, 2), [3, 4, 2, 0]),
+        (pair(4, 2), [3, 4, 2, 0], pair(5, 1), [3, 4, 2, 2]),
+        // 2 at 3 is the first that 5 and 1 ask for there.
+        (pair(2, 3), [4, 2, 3, 0], pair(5, 3), [4, 2, 3, 1]),
+        (pair(5, 3), [4, 2, 3, 0], pair(1, 3), [4, 2, 3, 1]),
+    ] {
+        let mut table = case.question(&mut random, first);
+        let mut further = |asked| case.further(&mut random, asked, &mut table);
+        assert_eq!(further(first), Ok(again), "{first:?}");
+        assert_eq!(further(asked), Ok(said), "{asked:?} after {first:?}");
+    }
+}
+
+/// The safe call, over a table that is blank but for its last cell: each answer, and the refusal of its own.
+#[test]
+fn safe_call() {
+    let said = |variable, position, last| {
+        let case = loops(b"yaa", 0);
+        let (mut table, mut work) = ([0; 40], [0; 20]);
+        [table[38], table[39]] = [last, 3];
+        let (sheet, entry) = (&case.sheet, &case.entry);
+        entryreader::lent::further(sheet, entry, variable, position, &mut table, &mut work)
+            .map_err(|error| error.refusal())
+    };
+    let loops = |named, cells| Ok(Answer::Loop { named, cells });
+    let missing = |named, cells| Ok(Answer::Missing { named, cells });
+    let end = |named, cells| Ok(Answer::End { named, cells });
+    for (answer, expected) in [
+        (said(2, 1, 8), Ok(Answer::Success { end: 2, cells: 1 })),
+        (said(2, 0, 8), Ok(Answer::Failure { cells: 1 })),
+        (said(1, 1, 8), loops(pair(3, 2), 3)),
+        (said(5, 1, 8), missing(pair(4, 2), 3)),
+        (said(2, 3, 8), end(pair(2, 3), 1)),
+        (said(1, 4, 8), Err(Refusal::Place)),
+        (said(1, 1, 9), Err(Refusal::Cell)),
+        (said(1, 1, 7), Err(Refusal::Cell)),
+    ] {
+        assert_eq!(answer, expected);
+    }
+}
+
+/// A table that no call left: of another question, with one odd cell among blank ones, or of any cells.
+fn any_table(random: &mut Random, case: &Case, asked: Pair) -> Vec<u32> {
+    let (variables, n) = (case.variables as u64, case.entry.len());
+    match random.below(4) {
+        0 => {
+            let mut table = Case::random(random, variables, n).question(random, asked);
+            table.truncate(2 * case.cells());
+            table
+        }
+        1 => {
+            let at = random.index(case.cells());
+            let cell: Cell = [random.below(12), random.below(12)].map(|number| number as u32);
+            let mut table = vec![0; 2 * case.cells()];
+            table.as_chunks_mut().0[at] = cell;
+            table
+        }
+        _ => any_cells(random, case.cells(), n),
+    }
+}
+
+/// Any table: refused with 19 exactly where a cell is at fault, else the call ends within its slices. Each reason was met as the only one, in the first
+/// cell, in the last and between them. What stands behind the cells is never looked at.
+#[test]
+fn any_tables() {
+    let mut random = Random(85);
+    let (mut met, mut alone) = ([0u64; 2], BTreeMap::<_, u64>::new());
+    for _ in 0..60_000 {
+        let variables = 1 + random.below(6);
+        let length = random.index(7);
+        let case = Case::random(&mut random, variables, length);
+        let (asked, n) = (case.pair(&mut random), case.n());
+        let mut table = any_table(&mut random, &case, asked);
+        let faults: Vec<(Fault, usize)> = kept::cells(n, &table)
+            .enumerate()
+            .filter_map(|(at, (place, cell))| Some((Call::Further.fault(n, place, cell)?, at)))
+            .collect();
+        let refused = Call::Further.refused(n, &table);
+        table.extend([u32::MAX; 3]);
+        let said = case.further(&mut random, asked, &mut table);
+        assert_eq!(said.err(), refused, "{asked:?} {case}");
+        met[usize::from(refused.is_some())] += 1;
+        if let [(fault, at)] = faults[..] {
+            let last = case.cells() - 1;
+            *alone.entry((fault, at == 0, at == last)).or_default() += 1;
+        }
+    }
+    assert!(met.into_iter().all(|met| 5_000 < met), "{met:?}");
+    // The first cell, which may be the last too, is at place 0: nothing ends left of that or reaches less.
+    let possible = [4, 2, 2];
+    assert_eq!(alone.len(), possible.into_iter().sum(), "{alone:?}");
+    assert!(alone.values().all(|met| 5 < *met), "{alone:?}");
+}
+
+/// A single cell at every index of tables whose rows have around 16 cells and more, and behind them: it stays where it is right, and is refused where it is
+/// at fault, but for one that stands behind. With the outcome 0 a reach that is not 0 says nothing: it may stay or not.
+#[test]
+fn every_place() {
+    let mut met = BTreeSet::new();
+    for n in [1_u32, 6, 7, 14, 15, 16, 17, 30, 31, 32, 39] {
+        let case = two_rules(n, 0);
+        for at in 0..case.cells() + 2 {
+            let place = at as u32 % (n + 1);
+            let below = place.saturating_sub(1);
+            let outcomes = [0, 1, 2, 3, 4, 5 + below, 5 + place, 5 + n, 6 + n, u32::MAX];
+            let reaches = [0, below, place, n, n + 1, u32::MAX];
+            let cells = outcomes
+                .into_iter()
+                .flat_map(|one| reaches.map(|other| [one, other]));
+            for cell in cells {
+                let fault = Call::Further.fault(n, place, cell);
+                let fault = fault.filter(|_| at < case.cells());
+                let said = one_cell(&case, Call::Further, at, cell);
+                let shown = format!("{cell:?} at {at}, {n} bytes");
+                match (fault, cell) {
+                    (Some(_), _) => assert_eq!(said, Err(19), "{shown}"),
+                    (None, [0, _]) => {
+                        assert_eq!(said.map(|[outcome, _]| outcome), Ok(0), "{shown}")
+                    }
+                    (None, _) => assert_eq!(said, Ok(cell), "{shown}"),
+                }
+                met.insert(fault);
+            }
+        }
+    }
+    assert_eq!(met.len(), 4);
+}
+
+/// 19 at its edges by hand, in the cell of variable 2 at 2 of an entry of 4 bytes.
+#[test]
+fn edges() {
+    for (cell, stays) in [
+        // 5 + n is the greatest outcome; an open cell of a walk holds the greatest number of all.
+        ([9, 2], true),
+        ([10, 2], false),
+        ([u32::MAX, 2], false),
+        ([u32::MAX, u32::MAX], false),
+        // A success may end at its place and not left of it.
+        ([7, 2], true),
+        ([6, 2], false),
+        ([5, 9], false),
+        // Success and failure reach their place at least, however far.
+        ([9, 1], false),
+        ([9, 0], false),
+        ([9, u32::MAX], true),
+        ([1, 2], true),
+        ([1, 1], false),
+        ([1, 0], false),
+        ([1, u32::MAX], true),
+        // A success may end past its reach.
+        ([9, 3], true),
+        // Of loop, missing and end the reach is not looked at.
+        ([2, 0], true),
+        ([2, 9], true),
+        ([3, 1], true),
+        ([4, u32::MAX], true),
+    ] {
+        let said = if stays { Ok(cell) } else { Err(19) };
+        assert_eq!(
+            one_cell(&two_rules(4, 0), Call::Further, 5 + 2, cell),
+            said,
+            "{cell:?}"
+        );
+    }
+}
+
+/// A cell with the outcome 0 counts as blank, whatever its reach: its pair is decided, and counted.
+#[test]
+fn blank_but_for_its_reach() {
+    let case = Case::new(I, b"ab", 0);
+    let mut table = vec![0; 18];
+    // 2 at 1, where the b is.
+    table[2 * (3 + 1) + 1] = 7;
+    let said = case.further(&mut Random(86), START, &mut table);
+    assert_eq!(said, Ok([6, 0, 0, 5]));
+    let rows = [[6, 2, 6, 2, 0, 0], [6, 1, 1, 2, 0, 0], [0, 0, 6, 1, 0, 0]];
+    assert_eq!(table, rows.concat());
+}
+
+/// 10: the table has twice V times (n + 1) numbers and the work slice V times (n + 1). It comes before 19, which looks at no later number, be it half of a
+/// cell.
+#[test]
+fn room() {
+    let mut random = Random(87);
+    let case = loops(b"xaa", 0);
+    let (asked, kept) = (pair(1, 1), case.question(&mut random, pair(1, 1)));
+    assert_eq!((case.cells(), kept.len()), (20, 43));
+    for table in [0, 1, 19, 20, 21, 38, 39, 40, 41, 42, 43] {
+        for work in [0, 19, 20, 21, 40] {
+            let enough = 40 <= table && 20 <= work;
+            let mut said = |mut table: Vec<u32>| {
+                table
+                    .iter_mut()
+                    .skip(40)
+                    .for_each(|later| *later = u32::MAX);
+                case.said_over(&mut random, Call::Further, asked, &mut table, work)
+            };
+            let shown = format!("{table} {work}");
+            let expected = if enough { Ok([2, 3, 2, 0]) } else { Err(10) };
+            assert_eq!(said(kept[..table].to_vec()), expected, "{shown}");
+            let expected = if enough { 19 } else { 10 };
+            assert_eq!(said(vec![u32::MAX; table]), Err(expected), "{shown}");
+        }
+    }
+}
+
+/// A further question over a table of so many numbers that no call leaves, and no work slice where it is too short: the number of its refusal.
+fn refused(case: &Case, asked: Pair, numbers: usize) -> Option<u32> {
+    let (mut table, work) = (vec![u32::MAX; numbers], numbers / 2);
+    case.said_over(&mut Random(88), Call::Further, asked, &mut table, work)
+        .err()
+}
+
+/// Every refusal, each with all the faults that come behind it: the first is given.
+#[test]
+fn refusals_in_their_order() {
+    let long = Case {
+        entry: vec![b'a'; 4_097],
+        ..loops(b"", 0)
+    };
+    for (number, sheet) in questions::refused_sheets() {
+        let sheet = sheet.into_bytes();
+        let case = Case {
+            sheet,
+            ..long.clone()
+        };
+        assert_eq!(refused(&case, pair(0, 9_999), 0), Some(number), "{case}");
+    }
+    assert_eq!(refused(&long, pair(0, 9_999), 0), Some(6));
+    let case = loops(b"xaa", 0);
+    for (asked, numbers, number) in [
+        (pair(0, 4), 0, 8),
+        (pair(6, 4), 0, 8),
+        (pair(u32::MAX, u32::MAX), 0, 8),
+        (pair(1, 4), 0, 9),
+        (pair(5, u32::MAX), 0, 9),
+        (pair(1, 3), 39, 10),
+        (pair(1, 3), 40, 19),
+    ] {
+        assert_eq!(refused(&case, asked, numbers), Some(number), "{asked:?}");
+    }
+}
+
+/// The longest entry on 256 variables: over its first cell, its last, and the pairs of a loop at its end.
+#[test]
+fn greatest_table() {
+    with_deep_stack(|| {
+        let question = sheets::last_byte(256, 4_096);
+        let case = Case::new(question.sheet, &question.entry, 0);
+        let (random, last) = (&mut Random(89), pair(256, 4_096));
+        let mut table = vec![0; 2 * case.cells()];
+        for asked in [pair(5, 4_096), START, last, pair(3, 4_095), pair(1, 2_000)] {
+            case.compared(random, Call::Further, asked, &mut table);
+        }
+        // Variable 256 succeeds where it stands; that is known now.
+        assert_eq!(table[2 * case.cells() - 2..], [5 + 4_096, 4_096]);
+        assert_eq!(
+            case.further(random, last, &mut table),
+            Ok([5 + 4_096, 0, 0, 0])
+        );
+        for at in [0, 2 * case.cells() - 2] {
+            let kept = std::mem::replace(&mut table[at], 6 + 4_096);
+            assert_eq!(case.further(random, START, &mut table), Err(19), "{at}");
+            table[at] = kept;
+        }
+        table.pop();
+        assert_eq!(case.further(random, START, &mut table), Err(10));
+    });
+}
