@@ -1,10 +1,11 @@
 //! Benchmarks of the proved calls beside Rust twins, LPeg and leg: `cargo bench --manifest-path rust/Cargo.toml --features test-calls`.
 //!
 //! It prints the tables of docs/BENCHMARKS.md. valgrind, lua5.4, lua-lpeg and peg are Debian's packages; where valgrind is absent, its columns stay
-//! empty. With `--calls SUBJECT COUNT` it only makes the calls of one subject, which is what valgrind counts; with `--corrections` or `--openings` it prints
-//! the table of corrections or of openings only.
+//! empty. With `--calls SUBJECT COUNT` it only makes the calls of one subject, which is what valgrind counts; with `--corrections`, `--openings` or
+//! `--further` it prints the table of corrections, of openings or of further questions only.
 mod correction;
 mod fastest;
+mod further;
 mod machine;
 mod opening;
 mod peers;
@@ -561,6 +562,9 @@ fn main() {
     if arguments.iter().any(|word| word == "--openings") {
         return opening::table();
     }
+    if arguments.iter().any(|word| word == "--further") {
+        return further::table();
+    }
     question_table();
     society_table();
     parts_table();
@@ -568,6 +572,7 @@ fn main() {
     growth_table();
     correction::table();
     opening::table();
+    further::table();
     println!("\n## Machine, writer and checker, millions a second\n");
     println!("| | proved | twin | time, of the twin's |");
     println!("|---|---|---|---|");

@@ -1,7 +1,7 @@
 //! Sheets and entries to measure with.
 
 /// A line of a sheet.
-fn row(numbers: [u32; 5]) -> String {
+pub fn row(numbers: [u32; 5]) -> String {
     numbers.map(|x| format!("{x:>5}")).concat() + "\n"
 }
 
