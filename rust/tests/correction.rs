@@ -28,7 +28,7 @@ use random::Random;
 use recognizer::{Answered, code, with_deep_stack};
 use std::collections::{BTreeMap, BTreeSet};
 use std::io::Write;
-use tables::{Case, START, any_cells, loops, two_rules};
+use tables::{Case, EDGES, START, any_cells, loops, two_rules};
 
 /// The code of a loop.
 const LOOP: u32 = 2;
@@ -329,26 +329,8 @@ fn edges() {
         let said = if c < 4 { Ok([1, 9]) } else { Err(18) };
         assert_eq!(one_cell(4, c, 4, [1, 9]), said, "{c}");
     }
-    // Behind the corrected byte 5 + n is the greatest outcome; a success may end at its place and not left of it, whatever its reach is beyond that;
-    // success and failure reach their place at least.
-    for (cell, stays) in [
-        ([9, 2], true),
-        ([10, 2], false),
-        ([u32::MAX, u32::MAX], false),
-        ([7, 2], true),
-        ([6, 2], false),
-        ([9, 1], false),
-        ([9, 0], false),
-        ([9, u32::MAX], true),
-        ([1, 2], true),
-        ([1, 1], false),
-        ([1, 0], false),
-        ([1, u32::MAX], true),
-        ([2, 0], true),
-        ([2, 9], true),
-        ([3, 9], true),
-        ([4, 9], true),
-    ] {
+    // Behind the corrected byte.
+    for (cell, stays) in EDGES {
         let said = if stays { Ok(cell) } else { Err(19) };
         assert_eq!(one_cell(4, 1, 2, cell), said, "{cell:?}");
     }

@@ -259,6 +259,33 @@ pub fn one_cell(case: &Case, call: Call, at: usize, cell: Cell) -> Result<Cell, 
     Ok(after)
 }
 
+/// Cells at place 2 of an entry of 4 bytes, by hand: do they stay where they are retained, or are they at fault?
+pub const EDGES: [(Cell, bool); 19] = [
+    // 5 + n is the greatest outcome; the cell of a pair that is still open in a walk holds the greatest number of all.
+    ([9, 2], true),
+    ([10, 2], false),
+    ([u32::MAX, 2], false),
+    ([u32::MAX, u32::MAX], false),
+    // A success may end at its place and not left of it; past its reach it may.
+    ([7, 2], true),
+    ([6, 2], false),
+    ([5, 9], false),
+    ([9, 3], true),
+    // Success and failure reach their place at least, however far beyond.
+    ([9, 1], false),
+    ([9, 0], false),
+    ([9, u32::MAX], true),
+    ([1, 2], true),
+    ([1, 1], false),
+    ([1, 0], false),
+    ([1, u32::MAX], true),
+    // Of loop, missing and end the reach is not looked at.
+    ([2, 0], true),
+    ([2, 9], true),
+    ([3, 1], true),
+    ([4, u32::MAX], true),
+];
+
 /// A number that may stand in a cell at a place of an entry of n bytes: most are in range.
 fn number(random: &mut Random, place: usize, n: usize) -> u32 {
     let (place, n) = (place as u32, n as u32);
