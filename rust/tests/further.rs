@@ -308,6 +308,30 @@ fn retained_loops() {
     }
 }
 
+/// Variables 1 and 2 wait for each other, and 3 for 2: named is the pair that is met a second time, from wherever it is asked.
+#[test]
+fn retained_round() {
+    let lines = [
+        [3, 1, 46, 0, 0],
+        [1, 4, 2, 2, 2],
+        [2, 4, 1, 1, 1],
+        [3, 4, 2, 2, 2],
+    ];
+    let case = Case::new(lines.map(questions::row).concat(), b"", 0);
+    let mut table = vec![0; 6];
+    for (variable, said) in [
+        (1, [2, 1, 0, 2]),
+        (2, [2, 2, 0, 0]),
+        (3, [2, 2, 0, 1]),
+        (1, [2, 1, 0, 0]),
+        (3, [2, 2, 0, 0]),
+    ] {
+        let found = case.further(&mut Random(90), pair(variable, 0), &mut table);
+        assert_eq!(found, Ok(said), "{variable}");
+    }
+    assert_eq!(table, [2, 0, 2, 0, 2, 0]);
+}
+
 /// The safe call, over a table that is blank but for its last cell: each answer, and the refusal of its own.
 #[test]
 fn safe_call() {
