@@ -5,7 +5,7 @@
 
 READER is an implementation of documents 01 and 02 in Python, reader.py, made apart from this repository. RANGES are the classes of the
 bytes, or a file with them, as 48-57:1,9:4 and so on; a byte in none has class 0. The default is document 01's with document 02's order 5, and
-reader.py's own classes must agree with it; all else is as of order 7. lua5.4 and lua-lpeg are installed from Debian where they are absent. It
+reader.py's own classes must agree with it; all else is as of order 8. lua5.4 and lua-lpeg are installed from Debian where they are absent. It
 is run by hand; a second run writes the same bytes.
 
 What comes from where:
@@ -13,7 +13,7 @@ What comes from where:
                     that may be left recursive. Each match is a process of its own with a limit of time, which ends this script.
   reader.py         loops; outcome and end where LPeg refuses the rules or would take too many calls; counts, tables, refusals,
                     the machine's runs, readings and what the checker says of them; corrections (corrections.py); openings
-                    (openings.py), with a direct evaluation beside it.
+                    (openings.py) and further questions (further.py), with a direct evaluation (direct.py) beside it.
 Where both judge they must agree, or this script ends with an error. k and h, from which the machine's budgets and rooms are chosen, are
 computed by the definition. Nothing comes from the program under test. The layout of the files is described in
 crates/test_questions/src/main.rt.
@@ -30,6 +30,7 @@ HERE = os.path.dirname(os.path.abspath(__file__))
 sys.path.append(os.path.join(HERE, ".."))
 
 import corrections
+import further
 import openings
 import questions
 from making import Store, install, line, load_reference, stop
@@ -39,7 +40,7 @@ CRATE = os.path.join(HERE, "..", "..", "crates", "test_questions")
 
 CLASSES = ("48-57:1,65-90:2,97-122:3,9:4,32:4,33-47:5,58-64:5,91-96:5,123-126:5,"
            "192-214:2,216-222:2,223-246:3,248-255:3,160:4,161-191:5,215:5,247:5,128-159:6")
-ORDER = 7               # reader.py answers as of this order of document 02
+ORDER = 8               # reader.py answers as of this order of document 02
 NO_REACH = 4            # as of this one only cells above the corrected byte stay
 
 FILE_BYTES = 262144     # the program's buffers
@@ -48,8 +49,8 @@ NUMBERS = questions.NUMBERS     # of the program's table, and of its work slice,
 UNTOUCHED_NUMBER, UNTOUCHED_BYTE = 77777, 42
 MODULUS = 9999991
 
-QUESTION, MACHINE, READING, DAMAGE, KEPT, CORRECTION, PUT, OPENING = 0, 1, 2, 3, 4, 5, 6, 7     # tasks of a request
-WRITER, CHECKER, END, CORRECTED, BEFORE, OPENED = 2, 3, 5, 6, 7, 8                              # kinds of answers beside the tasks
+QUESTION, MACHINE, READING, DAMAGE, KEPT, CORRECTION, PUT, OPENING, FURTHER, BLANK = range(10)     # tasks of a request
+WRITER, CHECKER, END, CORRECTED, BEFORE, OPENED, ASKED, BLANKED = 2, 3, 5, 6, 7, 8, 9, 10         # kinds of answers beside the tasks
 CODES = {"success": 0, "failure": 1, "loop": 2, "missing": 3, "end": 4, "spent": 6, "no frame": 7}
 NO_OPENING, REFUSED = 8, 9
 
@@ -143,6 +144,10 @@ class Reference:
         """A correction at c over a table, with as many numbers of work slice as the program lends."""
         return self.module.correct(q.sheet, q.entry, q.variable, q.place, table, [0] * cells_of(len(table)), c, order=ORDER)
 
+    def further(self, q, table):
+        """A further question over a table."""
+        return self.module.further(q.sheet, q.entry, q.variable, q.place, table, [0] * q.y, ORDER)
+
     def decided_without_reach(self, q, c, table):
         """How many cells the same correction decides where only cells at places above c stay."""
         outcomes = table[::2]
@@ -186,6 +191,12 @@ def cells_of(numbers):
     return numbers - numbers // 2
 
 
+def source_line(number, q, outcome, source, last):
+    """A line of SOURCES.txt."""
+    v = questions.variables_of(q.sheet)
+    return f"{number:5} {v:4} {len(q.entry):5} {q.variable:8} {q.place:8}  {outcome:8} {source:48} {last}"
+
+
 def accepted_or_refused(accepted): return "accepted" if accepted else "refused"
 
 
@@ -226,7 +237,7 @@ class Files:
 class Maker:
     def __init__(self, reference, judge):
         self.reference, self.judge, self.files = reference, judge, Files()
-        self.sources, self.tally, self.bytes_met, self.found = [], collections.Counter(), set(), {}
+        self.sources, self.further_sources, self.tally, self.bytes_met, self.found = [], [], collections.Counter(), set(), {}
 
     def judged(self, q, found):
         """Outcome, end, named pair, and who says so."""
@@ -260,8 +271,7 @@ class Maker:
         self.tally[("source", source)] += 1
         self.tally[("outcome and judge", outcome + (", LPeg" if source == "LPeg" else ", reader.py"))] += 1
         self.tally[("entry", "200 to 4096 bytes" if 200 <= len(q.entry) <= 4096 else "other")] += 1
-        v = questions.variables_of(q.sheet)
-        self.sources.append(f"{number:5} {v:4} {len(q.entry):5} {q.variable:8} {q.place:8}  {outcome:8} {source:48} {q.group}")
+        self.sources.append(source_line(number, q, outcome, source, q.group))
 
     def note_classes(self, q):
         met = self.reference.classes_met(q)
@@ -334,7 +344,7 @@ class Maker:
         said = f"refused with {c.number}" if self.reference.refused(c) else "passed"
         self.tally[("damaged readings", said)] += 1
 
-    # Corrections.
+    # Calls over a kept table.
 
     def four(self, found):
         """The numbers of an answer."""
@@ -349,15 +359,37 @@ class Maker:
         self.files.answer(number, QUESTION, *self.four(found), summed(table))
         return found, table
 
-    def correction(self, stored, q, c, byte, table):
+    def blank(self, q):
+        """A blank table is kept, and the entry."""
+        number = self.files.request(q, BLANK, q.x, q.y)
+        self.files.answer(number, BLANKED, 0, 0, 0, 0, 0)
+        return [0] * q.x
+
+    def answered(self, kind, name, number, q, found, table):
+        """The answer of a call over a kept table; who judges it."""
+        self.files.answer(number, kind, *self.four(found), summed(table))
+        if self.reference.refused(found):
+            self.tally[(name + "s", f"refused with {found.number}")] += 1
+            return "reader.py: a refusal"
+        source = self.judged(q, found)[1]
+        self.tally[(name + "s", found.outcome)] += 1
+        self.tally[(name + " judge", source)] += 1
+        return source
+
+    def correction(self, stored, q, c, byte, table, name="correction"):
         """A question about a kept entry whose byte at c was corrected; stored is an entry of the same length in the file."""
         found = self.reference.correct(q, c, table)
         number = self.files.request(q._replace(entry=stored), CORRECTION, c, 256 * len(table) + byte)
-        self.files.answer(number, CORRECTED, *self.four(found), summed(table))
-        if self.reference.refused(found): self.tally[("corrections", f"refused with {found.number}")] += 1
-        else:
-            self.tally[("corrections", found.outcome)] += 1
-            self.tally[("correction judge", self.judged(q, found)[1])] += 1
+        self.answered(CORRECTED, name, number, q, found, table)
+        return found
+
+    def further(self, stored, q, table, last):
+        """A further question about a kept entry, with its line of SOURCES.txt."""
+        found = self.reference.further(q, table)
+        number = self.files.request(q._replace(entry=stored), FURTHER, len(table), q.y)
+        source = self.answered(ASKED, "further question", number, q, found, table)
+        outcome = "refused" if self.reference.refused(found) else found.outcome
+        self.further_sources.append(source_line(number, q, outcome, source, last))
         return found
 
     def put(self, stored, at, x, table):
@@ -365,7 +397,6 @@ class Maker:
         number = self.files.request(stored, PUT, at, x)
         self.files.answer(number, BEFORE, 0, 0, 0, table[at], 0)
         table[at] = x
-
 
     # Openings.
 
@@ -423,7 +454,9 @@ def summary(maker, sizes, ranges):
     for kind in ("kind", "outcome", "source", "outcome and judge", "entry", "byte from 128", "tasks", "machine", "damaged readings", "chains",
                  "corrections", "correction judge", "corrected byte", "asked place", "retained, reached", "by reach, reached", "reach",
                  "near the end", "refused with 19", "puts", "openings", "opening kind", "opening's entry", "least opening", "m, named place",
-                 "opening judge"):
+                 "opening judge", "further chains", "further questions", "further question judge", "further's entry", "asked cell",
+                 "call before", "newly decided", "waiting", "both orders", "further's corrections", "further's correction judge",
+                 "further 19", "19 at", "taken"):
         for (k, name), count in sorted(maker.tally.items()):
             if k == kind: out.append(f"{kind:17} {count:6}  {name}")
         out.append("")
@@ -437,17 +470,19 @@ its group. Judged by LPeg: outcome, end and the pair of missing and end are LPeg
 table's sum, over outcomes and reaches, are always reader.py's, and so are all answers of the machine, the writer and the checker.
 Corrections have no lines here; their answers are reader.py's, and LPeg agrees on outcome, end and the pair of missing and end where it is
 named as their judge. Of the corrections near the end, the cells without the reach are those that reader.py decides newly as of order 4.
-Openings have no lines either. Least openings, which LPeg cannot judge, are reader.py's; a direct evaluation in openings.py agrees, of the
+Openings have no lines either. Least openings, which LPeg cannot judge, are reader.py's; the direct evaluation of direct.py agrees, of the
 whole entry, of the least opening and of the one that is a byte shorter. Where there is none LPeg agrees on the verdict's outcome and end,
 if it is named as the judge.
+Further questions have lines of their own behind those of the questions, with what the asked cell holds before the call. The direct
+evaluation agrees with every answer of theirs that is no refusal, with the count and with the whole table.
 
 """
 
 
 def write_sources(maker, text):
-    head = f"{'line':>5} {'V':>4} {'n':>5} {'variable':>8} {'place':>8}  {'outcome':8} {'judge':48} group"
-    with open(os.path.join(HERE, "SOURCES.txt"), "w") as file:
-        file.write(HEAD + text + "\n" + "\n".join([head] + maker.sources) + "\n")
+    head = f"{'line':>5} {'V':>4} {'n':>5} {'variable':>8} {'place':>8}  {'outcome':8} {'judge':48} "
+    lines = [head + "group"] + maker.sources + ["", head + "asked cell or refusal, group"] + maker.further_sources
+    with open(os.path.join(HERE, "SOURCES.txt"), "w") as file: file.write(HEAD + text + "\n" + "\n".join(lines) + "\n")
 
 
 def check_numbers(maker):
@@ -480,12 +515,14 @@ def make(options):
         run_readings(maker, asked)
         corrections.run(maker, asked)
         openings.run(maker, asked, classes)
+        further.run(maker, asked, classes)
     text = summary(maker, maker.files.write(), ranges)
     write_sources(maker, text)
     print(text)
     check_numbers(maker)
     corrections.check_numbers(maker.tally)
     openings.check_numbers(maker.tally)
+    further.check_numbers(maker.tally)
 
 
 def main():

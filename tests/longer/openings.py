@@ -1,16 +1,16 @@
 """The openings that already loop. An opening is asked for as a verdict is, at the start variable and place 0 of an entry that ends with the
 endmarker. Questions are taken from the list, of each kind with each verdict; sheets that loop at a chosen place of a page are made here.
 
-reader.py tries one opening after the other, from the empty one on. A direct evaluation that is written here, apart from reader.py, must
-agree with it: on the verdict, that the least opening loops, that the opening of one byte less comes to its end, and that the least
-opening has as many bytes as the looping entry was looked at."""
+reader.py tries one opening after the other, from the empty one on. The direct evaluation must agree with it: on the verdict, that the
+least opening loops, that the opening of one byte less comes to its end, and that the least opening has as many bytes as the looping entry
+was looked at."""
 from corrections import kind_of
+from direct import Direct
 from making import stop
 from questions import (CELLS, NUMBERS, WIDE, cells_due, dashes, generator, guarded, hidden_left, left_sums, longest, loop_ring, no_rule,
                        optional_letters, own_first, own_third, question, under_no, wide_ring, widened, words_text, words_with_mark)
 from sheets import ALPHABET, NATURAL, Sheet, bent_sheet, free_sheet, random_text
 
-FAILED = -1             # in place of an end
 PAIRS = 2500000         # of an opening from the list, reader.py decides at most about so many pairs
 TRIES = 500             # random sheets, and bytes changed of an entry
 RANDOM = 8              # random sheets that loop late
@@ -20,54 +20,6 @@ VERDICTS = ("recognised", "partial", "failure", "missing", "end")
 REFUSALS = (1, 2, 3, 4, 5, 6, 7, 10)
 PLACES = ("m = 0", "m up to n / 4", "m up to 3n / 4", "m up to n - 2", "m = n - 1", "m = n")
 BEHIND = (own_first, hidden_left, own_third, left_sums, under_no)
-
-
-# ---------------------------------------------------------------- a direct evaluation
-
-class Direct:
-    """The start variable at place 0, with a stack of the pairs that wait. `outcome` is what it comes to, `results` has the end of each pair
-    that was decided, `looked` counts the first bytes up to the last one looked at. A pair that would wait twice loops; that, a missing rule
-    and the entry's end are the outcome of all that wait."""
-
-    def __init__(self, sheet, entry, classes):
-        lines = [[int(sheet[i + 5 * k:i + 5 * k + 5]) for k in range(5)] for i in range(0, len(sheet), 26)]
-        self.start, self.rules = lines[0][1], {line[0]: line[1:] for line in lines[1:]}
-        self.entry, self.classes, self.results, self.looked = entry, classes, {}, 0
-        self.outcome = self.evaluate()
-
-    def evaluate(self):
-        stack = [(self.start, 0)]
-        waiting = set(stack)
-        while stack:
-            variable, place = stack[-1]
-            if variable not in self.rules: return "missing"
-            kind, *operands = self.rules[variable]
-            if kind == 4:
-                called = self.called(operands, place)
-                if called in waiting: return "loop"
-                if called not in self.results:
-                    stack.append(called)
-                    waiting.add(called)
-                    continue
-                end = self.results[called]
-            else:
-                if kind > 1 and place == len(self.entry): return "end"
-                end = self.leaf(kind, operands[0], place)
-            self.results[(variable, place)] = end
-            waiting.discard(stack.pop())
-        return "failure" if end == FAILED else "recognised" if end == len(self.entry) else "partial"
-
-    def called(self, operands, place):
-        """The first called pair, as long as it has no result; then the second."""
-        b, c, d = operands
-        end = self.results.get((b, place))
-        return (b, place) if end is None else (d, place) if end == FAILED else (c, end)
-
-    def leaf(self, kind, operand, place):
-        if kind < 2: return place if kind == 0 else FAILED
-        self.looked = max(self.looked, place + 1)
-        byte = self.entry[place]
-        return place + 1 if operand == (byte if kind == 2 else self.classes[byte]) else FAILED
 
 
 def place_of(m, n):
@@ -93,7 +45,7 @@ class Openings:
         verdict, m = self.maker.opening(q)
         if self.maker.reference.refused(verdict): stop(f"refused with {verdict.number}: {q}")
         whole = self.evaluated(q)
-        if whole.outcome != verdict.verdict: stop(f"the direct evaluation says {whole.outcome}, reader.py {verdict.verdict}: {q}")
+        if whole.verdict() != verdict.verdict: stop(f"the direct evaluation says {whole.verdict()}, reader.py {verdict.verdict}: {q}")
         if (whole.outcome == "loop") != (m is not None): stop(f"the direct evaluation says {whole.outcome}, the opening is {m}: {q}")
         self.tally[("opening kind", kind_of(q))] += 1
         self.tally[("opening's entry", "200 to 4096 bytes" if 200 <= len(q.entry) <= 4096 else "other")] += 1
@@ -353,7 +305,7 @@ def run_listed(openings, asked):
     for q, whole in listed(openings, asked):
         if whole.outcome == "loop":
             if whole.looked * len(whole.results) <= 2 * PAIRS: openings.ask(q)
-        elif len(q.entry) <= 2000: groups.setdefault((kind_of(q), whole.outcome), []).append(q)
+        elif len(q.entry) <= 2000: groups.setdefault((kind_of(q), whole.verdict()), []).append(q)
     for group in groups.values():
         for q in rng.sample(group, min(NONE, len(group))): openings.ask(q)
 

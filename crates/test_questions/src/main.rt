@@ -16,10 +16,13 @@
 //                         numbers of the kept table and a work slice are lent
 //     task 6, put         the number at x of the kept table is made y; nothing is asked
 //     task 7, opening     as task 0, but for the opening that already loops, at the start variable and place 0
+//     task 8, further     a further question about the kept entry; x numbers of the kept table and a work slice of y numbers are lent
+//     task 9, blank       as task 4, but nothing is asked: the kept table is blank
 //
 // A cell is two numbers of a table and one of a work slice: with tasks 2 and 5 the work slice has half as many numbers as the table, rounded
-// up. What is kept lasts until the next task 4, so that corrections follow one another. A correction takes as many bytes of the kept entry as
-// the request's entry has; where x is not below that number, no byte is changed and the call is made all the same.
+// up. What is kept lasts until the next task 4 or 9, so that corrections and further questions follow one another. They take as many bytes of
+// the kept entry as the request's entry has; where x of a correction is not below that number, no byte is changed and the call is made all the
+// same.
 //
 // An answer is a line of seven fields of 8 columns and byte 10. The first is the number of the request's line, the second is
 //
@@ -32,10 +35,12 @@
 //     6, correction  as for a question; the count is of newly decided cells
 //     7, put         three zeros, the number that stood there before, and 0
 //     8, opening     code, refusal number, least opening or refused line, sum of the lent work slice if refused, sum of the lent table
+//     9, further     as for a correction
+//     10, blank      five zeros
 //
 // The codes: 0 success, 1 failure, 2 loop, 3 missing, 4 end, 6 spent, 7 no frame, 8 no opening, 9 refused. Table and output are filled
-// before each call but a correction, so that their sums also show what a call must leave unchanged. A table's sum is over outcomes and
-// reaches alike.
+// before each call but a correction and a further question, so that their sums also show what a call must leave unchanged. A table's sum is
+// over outcomes and reaches alike.
 ghost use Prim.Native.Nat.{_<_, _≤_};
 ghost use Rattle.io.specs.Counts.{Counts};
 use backtrack::Ending;
@@ -120,10 +125,10 @@ fn sum_of_bytes(bytes: &[u8]) -> u32 {
     sum as u32
 }
 
-fn fill_numbers(numbers: &mut [u32]) {
+fn fill_numbers(numbers: &mut [u32], x: u32) {
     let mut i: usize = 0;
     while i < numbers.len() {
-        numbers[i] = UNTOUCHED_NUMBER;
+        numbers[i] = x;
         i += 1;
     }
 }
@@ -186,6 +191,16 @@ fn low_digits(x: usize) -> u32 {
     (x % 100000000) as u32
 }
 
+// What a call of this kind answered about a pair, and the table that it left.
+fn print_outcome(number: u32, kind: u32, answer: Answer, table: &[u32]) {
+    print_answer(
+        number,
+        kind,
+        numbers_of_answer(answer),
+        sum_of_numbers(table),
+    );
+}
+
 // Tasks 0 and 4, with the lent slices.
 fn question(
     number: u32,
@@ -195,29 +210,50 @@ fn question(
     table: &mut [u32],
     work: &mut [u32],
 ) {
-    fill_numbers(table);
+    fill_numbers(table, UNTOUCHED_NUMBER);
     let answer = memo::question(sheet, entry, r.variable, r.position, table, work);
-    print_answer(number, 0, numbers_of_answer(answer), sum_of_numbers(table));
+    print_outcome(number, 0, answer, table);
 }
 
 // Task 7, with the lent slices.
 fn find_opening(number: u32, sheet: &[u8], entry: &[u8], table: &mut [u32], work: &mut [u32]) {
-    fill_numbers(table);
+    fill_numbers(table, UNTOUCHED_NUMBER);
     let prefix = opening::opening(sheet, entry, table, work);
     let four = numbers_of_prefix(prefix, sum_of_numbers(work));
     print_answer(number, 8, four, sum_of_numbers(table));
 }
 
-// Tasks 0, 4 and 7, with the lent slices.
+// Task 8, with the lent slices.
+fn further(
+    number: u32,
+    sheet: &[u8],
+    entry: &[u8],
+    r: Request,
+    table: &mut [u32],
+    work: &mut [u32],
+) {
+    let answer = correction::further(sheet, entry, r.variable, r.position, table, work);
+    print_outcome(number, 9, answer, table);
+}
+
+// Task 9, with the lent table.
+fn blank(number: u32, table: &mut [u32]) {
+    fill_numbers(table, 0);
+    print_answer(number, 10, Four(0, 0, 0, 0), sum_of_numbers(table));
+}
+
+// Tasks 0, 4, 7, 8 and 9, with the lent slices.
 fn ask(number: u32, sheet: &[u8], entry: &[u8], r: Request, table: &mut [u32], work: &mut [u32]) {
     let task = r.task;
     match task {
         7 => find_opening(number, sheet, entry, table, work),
+        8 => further(number, sheet, entry, r, table, work),
+        9 => blank(number, table),
         _ => question(number, sheet, entry, r, table, work),
     }
 }
 
-// Tasks 0, 4 and 7.
+// Tasks 0, 4, 7, 8 and 9.
 fn run_question(
     number: u32,
     sheet: &[u8],
@@ -349,7 +385,7 @@ fn run_damage(
     check(number, sheet, entry, r, out, lines);
 }
 
-// Task 4.
+// Tasks 4 and 9.
 fn run_kept(
     number: u32,
     sheet: &[u8],
@@ -384,24 +420,20 @@ fn correct(
 ) {
     set_byte(entry, r.x as usize, (r.y % 256) as u8);
     let answer = correction::correct(sheet, entry, r.variable, r.position, r.x, table, work);
-    print_answer(number, 6, numbers_of_answer(answer), sum_of_numbers(table));
+    print_outcome(number, 6, answer, table);
 }
 
-// Task 5, on an entry of this length.
+// Task 5.
 fn run_correction(
     number: u32,
     sheet: &[u8],
-    length: usize,
+    entry: &mut [u8],
     r: Request,
-    kept_entry: &mut [u8],
     kept_table: &mut [u32],
     work: &mut [u32],
 ) {
     let lent = (r.y / 256) as usize;
     let cells = cells_of(lent);
-    if kept_entry.len() < length {
-        return print_fault(number);
-    }
     if kept_table.len() < lent {
         return print_fault(number);
     }
@@ -411,11 +443,32 @@ fn run_correction(
     correct(
         number,
         sheet,
-        &mut kept_entry[0..length],
+        entry,
         r,
         &mut kept_table[0..lent],
         &mut work[0..cells],
     );
+}
+
+// Tasks 5 and 8, on so many bytes of the kept entry.
+fn run_over(
+    number: u32,
+    sheet: &[u8],
+    length: usize,
+    r: Request,
+    kept_entry: &mut [u8],
+    kept_table: &mut [u32],
+    work: &mut [u32],
+) {
+    if kept_entry.len() < length {
+        return print_fault(number);
+    }
+    let entry = &mut kept_entry[0..length];
+    let task = r.task;
+    match task {
+        5 => run_correction(number, sheet, entry, r, kept_table, work),
+        _ => run_question(number, sheet, entry, r, kept_table, work),
+    }
 }
 
 // Task 6.
@@ -452,8 +505,7 @@ fn run_fresh(number: u32, sheet: &[u8], entry: &[u8], r: Request, work: &mut [u3
     let mut table = [0u32; 65536];
     let task = r.task;
     match task {
-        0 => run_question(number, sheet, entry, r, &mut table, work),
-        7 => run_question(number, sheet, entry, r, &mut table, work),
+        0 | 7 => run_question(number, sheet, entry, r, &mut table, work),
         _ => run_written(number, sheet, entry, r, &mut table, work),
     }
 }
@@ -472,8 +524,8 @@ fn run(
     let task = r.task;
     match task {
         1 => run_machine(number, sheet, entry, r, &mut work),
-        4 => run_kept(number, sheet, entry, r, kept_entry, kept_table, &mut work),
-        5 => run_correction(
+        4 | 9 => run_kept(number, sheet, entry, r, kept_entry, kept_table, &mut work),
+        5 | 8 => run_over(
             number,
             sheet,
             entry.len(),

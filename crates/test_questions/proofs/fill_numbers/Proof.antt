@@ -6,10 +6,10 @@ use Rattle.test_questions.proofs.fill_numbers.Statement.{statement}
 use Rattle.test_questions.proofs.fill_numbers.Tie as tie
 
 abbrev Inv-loop : tie.InvT-loop
-Inv-loop numbers₀ i₀ numbers i = (i ≤ length numbers₀) × (length numbers ≡ length numbers₀)
+Inv-loop numbers₀ x i₀ numbers i = (i ≤ length numbers₀) × (length numbers ≡ length numbers₀)
 
 abbrev μ-loop : tie.MeasureT-loop
-μ-loop numbers₀ i₀ numbers i = length numbers₀ - i
+μ-loop numbers₀ x i₀ numbers i = length numbers₀ - i
 
 loop-holds : tie.Need-loop-holds Inv-loop μ-loop
 loop-holds c = search needs
