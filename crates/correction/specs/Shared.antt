@@ -38,6 +38,7 @@ pub record InTurn (sheet input : List ℕ) (g : Grammar) (A p B q : ℕ) (table 
   pub askable-one : Askable sheet input g A p table work₁
   pub askable-other : Askable sheet input g B q table work₂
 
+-- Order 8, sentence by sentence, of a sheet with the grammar g and an input.
 pub record SharedTable (sheet input : List ℕ) (g : Grammar) : Type 0 where
   -- "Any other table falls under 19": a kept one never does.
   pub kept-accepted : (A p : ℕ) (table work : List ℕ) → KeptTable (g .rule) (g .variables) input table → Askable sheet input g A p table work

@@ -42,8 +42,8 @@ Blank v n T = (A p : ℕ) → Within v n A p → contents n T (A at p) ≡ (0, 0
 
 -- Order 8: "A kept table is, for one sheet and entry, a blank one, one left by a question, or one left by a further question or a correction from a kept
 -- table (for a correction, of an entry that differs at c at most)." KeptTable rule v s T: a table T of the input s. It speaks of what a call leaves of a
--- table, and of no call's contract; a verdict, the writer and an opening leave what a question leaves. That each call leaves a kept table is a law
--- beside its contract.
+-- table, and of no call's contract. That the calls leave kept tables is a law of each: `question-kept` and `kept-again` of correction, and `verdict-kept`,
+-- `writer-kept` and `opening-kept` of demands for those that ask a question too.
 pub data KeptTable (rule : ℕ → Rule) (v : ℕ) : List ℕ → List ℕ → Type 0 where
   -- "a blank one,"
   blank : {s T : List ℕ} → Blank v (length s) T → KeptTable rule v s T
