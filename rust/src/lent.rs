@@ -4,7 +4,7 @@
 //! After a refusal everything lent is as it was.
 //!
 //! A table is kept, of a sheet and an entry, where it is blank, where [`question`] left it, or where [`further`] or [`correct`] left it over a kept one;
-//! [`judge`], [`opening`] and [`write`] leave the table of the question that they ask.
+//! [`judge`], [`opening`] and [`write()`] leave the table of the question that they ask.
 //!
 //! ```
 //! use entryreader::{Answer, lent};

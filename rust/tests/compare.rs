@@ -248,8 +248,6 @@ fn greatest_table() {
             let (cells, output) = (case.cells, 49 * case.cells);
             comparison.question(&case, 2 * cells, cells);
             comparison.question(&case, 2 * cells, cells - 1);
-            comparison.further(&case, 2 * cells, cells);
-            comparison.further(&case, 2 * cells - 1, cells);
             comparison.write(&case, 2 * cells, cells, output);
             comparison.write(&case, 2 * cells, cells, output - 1);
             let mut ended = case;

@@ -19,11 +19,11 @@ mod sheets;
 mod tables;
 
 use entryreader::{Answer, Pair, Refusal};
-use kept::{Call, Fault};
+use kept::{BLANK, Call, Cell, Fault};
 use marked_cases::{CELLS, H, I};
 use met::Met;
 use random::Random;
-use recognizer::{Answered, code, with_deep_stack};
+use recognizer::{code, with_deep_stack};
 use std::collections::{BTreeMap, BTreeSet};
 use std::io::Write;
 use tables::{Case, EDGES, START, any_cells, loops, one_cell, two_rules};
@@ -139,59 +139,25 @@ fn chains() {
 
 /// Two pairs asked one after the other over a kept table, in either order: each is answered as on a fresh table, and the two tables are the same. Together
 /// they newly decide the pairs that are reached from either and were blank. Whether some of them are reached from both.
-fn either_order(random: &mut Random, kept: &Kept) -> bool {
-    let asked = [(); 2].map(|()| kept.case.pair(random));
+fn either_order(random: &mut Random, Kept { case, table, .. }: &Kept) -> bool {
+    let asked = [(); 2].map(|()| case.pair(random));
     let mut ask = |order: [usize; 2]| {
-        let mut table = kept.table.clone();
-        let mut answers = [[0; 4]; 2];
+        let (mut table, mut said, mut newly) = (table.clone(), [[0; 3]; 2], 0);
         for i in order {
-            let (found, newly) = kept
-                .case
-                .compared(random, Call::Further, asked[i], &mut table);
-            answers[i] = found.numbers(newly);
+            let (found, new) = case.compared(random, Call::Further, asked[i], &mut table);
+            let [code, variable, position, _] = found.numbers(new);
+            said[i] = [code, variable, position];
+            newly += new;
         }
-        (answers, table)
+        (said, newly, table)
     };
-    let ((one, one_table), (other, other_table)) = (ask([0, 1]), ask([1, 0]));
-    assert_eq!(one_table, other_table, "{asked:?} {}", kept.case);
-    let heard = |answers: [[u32; 4]; 2]| {
-        answers.map(|[code, variable, position, _]| [code, variable, position])
-    };
-    assert_eq!(heard(one), heard(other), "{asked:?} {}", kept.case);
-    let reached = asked.map(|asked| kept.case.answered(asked));
-    let (either, both) = newly_reached(&kept.table, &reached);
-    for answers in [one, other] {
-        assert_eq!(
-            answers[0][3] + answers[1][3],
-            either,
-            "{asked:?} {}",
-            kept.case
-        );
-    }
-    0 < both
-}
-
-/// How many blank cells of a table are those of pairs that are reached from either of two, and how many of pairs reached from both.
-fn newly_reached(table: &[u32], [one, other]: &[Answered; 2]) -> (u32, u32) {
-    let outcomes = |table: &[u32]| {
-        table
-            .iter()
-            .step_by(2)
-            .map(|outcome| *outcome != 0)
-            .collect()
-    };
-    let [held, one, other]: [Vec<bool>; 3] = [table, &one.table, &other.table].map(outcomes);
-    let blank = one
-        .into_iter()
-        .zip(other)
-        .zip(held)
-        .filter(|(_, held)| !held);
-    let (mut either, mut both) = (0, 0);
-    for ((one, other), _) in blank {
-        either += u32::from(one || other);
-        both += u32::from(one && other);
-    }
-    (either, both)
+    let one = ask([0, 1]);
+    assert_eq!(one, ask([1, 0]), "{asked:?} {case}");
+    let [first, second] = asked.map(|asked| case.answered(asked).table);
+    let (either, _) = kept::left(&first, &second);
+    let [first, second, either] = [first, second, either].map(|cells| kept::left(&cells, table).1);
+    assert_eq!(one.1, either, "{asked:?} {case}");
+    either < first + second
 }
 
 /// From a blank table, and from one that some calls have left.
@@ -248,11 +214,8 @@ fn case_a() {
     let case = Case::new(H, b"-6.", 0);
     let mut table = vec![0; 2 * case.cells()];
     for (asked, said) in [(pair(4, 1), [7, 0, 0, 1]), (pair(1, 0), [8, 0, 0, 4])] {
-        assert_eq!(
-            case.further(&mut random, asked, &mut table),
-            Ok(said),
-            "{asked:?}"
-        );
+        let found = case.further(&mut random, asked, &mut table);
+        assert_eq!(found, Ok(said), "{asked:?}");
     }
     assert_eq!(table, CELLS.concat());
     for (asked, said) in [
@@ -267,11 +230,8 @@ fn case_a() {
         // 6 fails wherever it stands.
         (pair(6, 3), [1, 0, 0, 1]),
     ] {
-        assert_eq!(
-            case.further(&mut random, asked, &mut table),
-            Ok(said),
-            "{asked:?}"
-        );
+        let found = case.further(&mut random, asked, &mut table);
+        assert_eq!(found, Ok(said), "{asked:?}");
     }
     let rows = [
         [8, 3, 8, 3, 0, 0, 4, 0],
@@ -332,13 +292,13 @@ fn retained_round() {
     assert_eq!(table, [2, 0, 2, 0, 2, 0]);
 }
 
-/// The safe call, over a table that is blank but for its last cell: each answer, and the refusal of its own.
+/// The safe call over a blank table: each answer. Over one whose last cell is at fault: the refusal of its own, which comes behind the question's.
 #[test]
 fn safe_call() {
     let said = |variable, position, last| {
         let case = loops(b"yaa", 0);
         let (mut table, mut work) = ([0; 40], [0; 20]);
-        [table[38], table[39]] = [last, 3];
+        [table[38], table[39]] = last;
         let (sheet, entry) = (&case.sheet, &case.entry);
         entryreader::lent::further(sheet, entry, variable, position, &mut table, &mut work)
             .map_err(|error| error.refusal())
@@ -347,21 +307,21 @@ fn safe_call() {
     let missing = |named, cells| Ok(Answer::Missing { named, cells });
     let end = |named, cells| Ok(Answer::End { named, cells });
     for (answer, expected) in [
-        (said(2, 1, 8), Ok(Answer::Success { end: 2, cells: 1 })),
-        (said(2, 0, 8), Ok(Answer::Failure { cells: 1 })),
-        (said(1, 1, 8), loops(pair(3, 2), 3)),
-        (said(5, 1, 8), missing(pair(4, 2), 3)),
-        (said(2, 3, 8), end(pair(2, 3), 1)),
-        (said(1, 4, 8), Err(Refusal::Place)),
-        (said(1, 1, 9), Err(Refusal::Cell)),
-        (said(1, 1, 7), Err(Refusal::Cell)),
+        (said(2, 1, BLANK), Ok(Answer::Success { end: 2, cells: 1 })),
+        (said(2, 0, BLANK), Ok(Answer::Failure { cells: 1 })),
+        (said(1, 1, BLANK), loops(pair(3, 2), 3)),
+        (said(5, 1, BLANK), missing(pair(4, 2), 3)),
+        (said(2, 3, BLANK), end(pair(2, 3), 1)),
+        (said(1, 4, [9, 3]), Err(Refusal::Place)),
+        (said(1, 1, [9, 3]), Err(Refusal::Cell)),
+        (said(1, 1, [7, 3]), Err(Refusal::Cell)),
     ] {
         assert_eq!(answer, expected);
     }
 }
 
 /// Where a table comes from that is not a kept one.
-#[derive(Clone, Copy, Debug, PartialEq, Eq, PartialOrd, Ord)]
+#[derive(Clone, Copy, Debug)]
 enum Source {
     OtherSheet,
     OtherEntry,
@@ -449,38 +409,43 @@ fn any_tables() {
     assert!(alone.values().all(|met| 5 < *met), "{alone:?}");
 }
 
-/// A single cell at every index of tables whose rows have around 16 cells and more, and behind them: it stays where it is right, and is refused where it is
-/// at fault, but for one that stands behind. With the outcome 0 a reach that is not 0 says nothing: it may stay or not.
+/// A further question over a table that is blank but for one cell: that stays where it is right or stands behind the others, and else brings on 19.
+/// With the outcome 0 a reach that is not 0 says nothing: it may stay or not. What is at fault.
+fn as_said(case: &Case, at: usize, cell: Cell) -> Option<Fault> {
+    let place = at as u32 % (case.n() + 1);
+    let fault = Call::Further.fault(case.n(), place, cell);
+    let fault = fault.filter(|_| at < case.cells());
+    let said = one_cell(case, Call::Further, at, cell);
+    let shown = || format!("{cell:?} at {at}, {case}");
+    match (fault, cell) {
+        (Some(_), _) => assert_eq!(said, Err(19), "{}", shown()),
+        (None, [0, _]) => assert_eq!(said.map(|[outcome, _]| outcome), Ok(0), "{}", shown()),
+        (None, _) => assert_eq!(said, Ok(cell), "{}", shown()),
+    }
+    fault
+}
+
+/// Every kind of outcome beside every kind of reach, at a place of n bytes.
+fn every_kind(n: u32, place: u32) -> impl Iterator<Item = Cell> {
+    let below = place.saturating_sub(1);
+    let outcomes = [0, 1, 2, 3, 4, 5 + below, 5 + place, 5 + n, 6 + n, u32::MAX];
+    let reaches = [0, below, place, n, n + 1, u32::MAX];
+    let beside = move |outcome| reaches.map(|reach| [outcome, reach]);
+    outcomes.into_iter().flat_map(beside)
+}
+
+/// A single cell at every index of tables whose rows have around 8, 16 and 32 cells, and behind them: nothing that is not blank is passed over.
 #[test]
 fn every_place() {
     let mut met = BTreeSet::new();
-    for n in [1_u32, 6, 7, 14, 15, 16, 17, 30, 31, 32, 39] {
+    for n in [1, 6, 7, 14, 15, 16, 17, 30, 31, 32, 39] {
         let case = two_rules(n, 0);
         for at in 0..case.cells() + 2 {
-            let place = at as u32 % (n + 1);
-            let below = place.saturating_sub(1);
-            let outcomes = [0, 1, 2, 3, 4, 5 + below, 5 + place, 5 + n, 6 + n, u32::MAX];
-            let reaches = [0, below, place, n, n + 1, u32::MAX];
-            let cells = outcomes
-                .into_iter()
-                .flat_map(|one| reaches.map(|other| [one, other]));
-            for cell in cells {
-                let fault = Call::Further.fault(n, place, cell);
-                let fault = fault.filter(|_| at < case.cells());
-                let said = one_cell(&case, Call::Further, at, cell);
-                let shown = format!("{cell:?} at {at}, {n} bytes");
-                match (fault, cell) {
-                    (Some(_), _) => assert_eq!(said, Err(19), "{shown}"),
-                    (None, [0, _]) => {
-                        assert_eq!(said.map(|[outcome, _]| outcome), Ok(0), "{shown}")
-                    }
-                    (None, _) => assert_eq!(said, Ok(cell), "{shown}"),
-                }
-                met.insert(fault);
-            }
+            let cells = every_kind(n, at as u32 % (n + 1));
+            met.extend(cells.map(|cell| as_said(&case, at, cell)));
         }
     }
-    assert_eq!(met.len(), 4);
+    assert_eq!(met.len(), 4, "{met:?}");
 }
 
 /// 19 at its edges, by hand.

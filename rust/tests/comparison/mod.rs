@@ -81,11 +81,6 @@ fn opened(least: Option<usize>) -> String {
     opened.to_string()
 }
 
-/// An outcome that is at fault at every place of an entry of n bytes.
-fn random_fault(random: &mut Random, n: u32) -> u32 {
-    random.pick(&[6 + n, 7 + n, 1 << 31, u32::MAX])
-}
-
 /// What is to be said of a further question over a kept table, or one with a cell at fault: the answer, the cells afterwards and how many of them are new.
 fn further_by_document(
     case: &Case,
@@ -257,9 +252,10 @@ impl Comparison {
         };
         let found = recognizer::question(other, usize::MAX, usize::MAX);
         let mut table = found.map_or_else(|_| vec![0; 2 * case.cells], |found| found.table);
-        let at = 2 * self.random.index(table.len() / 2);
         if self.random.one_in(8) {
-            table[at] = random_fault(&mut self.random, case.entry.len() as u32);
+            let at = 2 * self.random.index(table.len() / 2);
+            let over = 6 + case.entry.len() as u32;
+            table[at] = self.random.pick(&[over, 1 << 31, u32::MAX]);
         }
         table.resize(numbers, u32::MAX);
         table
