@@ -905,6 +905,14 @@ fn call_between(random: &mut Random, reader: &mut Reader, met: &mut Met) {
     met.found(call, &found, |()| "answered".to_string());
 }
 
+/// Everything that corrections, further questions and the calls between them can say.
+#[rustfmt::skip]
+const POSSIBLE_OVER_KEPT: [&str; 22] = [
+    "correct success", "correct failure", "correct loop", "correct missing", "correct end", "correct refused 8", "correct refused 9", "correct refused 18",
+    "further success", "further failure", "further loop", "further missing", "further end", "further refused 8", "further refused 9",
+    "verdict answered", "verdict refused 7", "opening answered", "opening refused 7", "reading answered", "ask answered", "ask refused 6",
+];
+
 /// Corrections and further questions one after the other, with other calls between them.
 #[test]
 fn corrections_and_further_questions() {
@@ -927,31 +935,7 @@ fn corrections_and_further_questions() {
             over_kept(&mut reader, call, byte, asked, &mut met);
         }
     }
-    let possible = [
-        "correct success",
-        "correct failure",
-        "correct loop",
-        "correct missing",
-        "correct end",
-        "correct refused 8",
-        "correct refused 9",
-        "correct refused 18",
-        "further success",
-        "further failure",
-        "further loop",
-        "further missing",
-        "further end",
-        "further refused 8",
-        "further refused 9",
-        "verdict answered",
-        "verdict refused 7",
-        "opening answered",
-        "opening refused 7",
-        "reading answered",
-        "ask answered",
-        "ask refused 6",
-    ];
-    met.assert_met(&possible, 50);
+    met.assert_met(&POSSIBLE_OVER_KEPT, 50);
 }
 
 /// Everything that the calls can say.
