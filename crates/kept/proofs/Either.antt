@@ -53,7 +53,7 @@ module _ (rule : ℕ → Rule) (v : ℕ) (s : List ℕ) where
 
   -- After two questions: what was filled, and what either reaches.
   module _ {x y : Pair} {O T₁ T₂ : List ℕ} (t₁ : Table rule s v x (contents (length s) O) O T₁) (t₂ : Table rule s v y (contents (length s) T₁) T₁ T₂) where
-    pub filled-twice : (A p : ℕ) → Within v (length s) A p
+    filled-twice : (A p : ℕ) → Within v (length s) A p
         → (held (length s) T₂ (A at p) ≢ 0) ↔ ((held (length s) O (A at p) ≢ 0) ⊎ (Reached rule s x (A at p) ⊎ Reached rule s y (A at p)))
     filled-twice A p w = (λ n. there (filled rule s v t₂ A p w .0 n), back)
       where
