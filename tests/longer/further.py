@@ -18,6 +18,7 @@ WAITING = 6             # chains behind a loop, a missing rule and an entry's en
 TRIES = 12              # pairs that are looked at for one that fits
 ORDERS = 10             # chains whose last two further questions are asked in both orders, and as many from a blank table
 PUT_CELLS = 6000        # the table into which numbers are put has at most so many cells
+PUT_DECIDED = 40        # of which at least so many are decided
 LINE = 20, 80           # bytes of a line of a register
 LINES = 10              # of so many lines a chain is begun, and in both orders of so many
 
@@ -189,8 +190,8 @@ def chosen(rng, asked):
 
 
 def with_more(q):
-    """The question with more numbers of a table than it needs, an odd count of them, where there are more."""
-    return q._replace(x=min(NUMBERS, q.x + 51))
+    """The question with all numbers of the program's table but one, where it needs fewer."""
+    return q._replace(x=max(q.x, NUMBERS - 1))
 
 
 def ask_once(rng, page): page.call(Page.ask, pair_for(rng, page))
@@ -294,23 +295,33 @@ def wrong_and_right(page, name, i, what, cell):
     page.put(i, before)
 
 
-def run_wrong(page, turn):
-    """Faults in turn at the first cell, at the last and between them; every fault at the last."""
+def spots(page):
+    """Cells for a fault: the first, the last and some between them; also in a row that is blank otherwise, if there is one."""
     width, due = len(page.q.entry) + 1, cells_due(page.q)
-    for k, (name, i) in enumerate((("first cell", 0), ("end of the first row", width - 1), ("start of the second row", width),
-                                   ("middle", due // width // 2 * width + width // 2), ("start of the last row", due - width),
-                                   ("last cell but one", due - 2), ("last cell", due - 1))):
-        every = list(wrong_cells(i % width, width - 1))
-        some = every if i == due - 1 else [every[(2 * k + turn) % len(every)], every[(2 * k + turn + 1) % len(every)]]
+    yield from (("first cell", 0), ("end of the first row", width - 1), ("start of the second row", width),
+                ("middle", due // width // 2 * width + width // 2), ("start of the last row", due - width), ("last cell but one", due - 2))
+    blank = [start for start in range(0, due, width) if not any(page.table[2 * start:2 * (start + width)])]
+    for start in blank[-1:]: yield from ((f"place {place} of a blank row", start + place) for place in (15, 16))
+    yield "last cell", due - 1
+
+
+def run_wrong(page, turn):
+    """Faults in turn at these cells, and every fault at the last cell."""
+    size = len(page.q.entry)
+    for k, (name, i) in enumerate(spots(page)):
+        every = list(wrong_cells(i % (size + 1), size))
+        some = every if name == "last cell" else [every[(2 * k + turn + x) % len(every)] for x in (0, 1)]
         for what, cell in some: wrong_and_right(page, name, i, what, cell)
 
 
 def run_taken(rng, page):
-    """Cells without a fault where the question does not reach them, and a later cell."""
-    for what, _ in other_cells(0, 0):
+    """Cells without a fault, by turns the last one that the question does not reach and any such; and a later cell. Of a table with such a
+    cell no more is promised than that it is not refused, but the question does not meet the cell."""
+    for turn, (what, _) in enumerate(other_cells(0, 0)):
         asked = society(rng, page)
         reached = page.direct(asked).cells()
-        pair = rng.choice([x for x in page.pairs() if x not in reached and x[1] > 0])
+        free = [x for x in page.pairs() if x not in reached and x[1] > 0]
+        pair = rng.choice(free) if turn % 2 else free[-1]
         before = page.cell(pair)
         page.put(page.number(pair), dict(other_cells(pair[1], len(page.q.entry)))[what])
         page.ask(asked)
@@ -322,8 +333,10 @@ def run_taken(rng, page):
 
 
 def run_puts(maker, rng, classes, pages):
-    fit = [q for q in pages if cells_due(q) <= PUT_CELLS and maker.reference.question(q)[0].count >= 40]
-    for turn, q in enumerate((rng.choice([q for q in fit if len(q.entry) <= LINE[1]]), rng.choice([q for q in fit if len(q.entry) > LINE[1]]))):
+    """A line and a longer entry, with numbers put into their tables."""
+    fit = [q for q in pages if cells_due(q) <= PUT_CELLS and maker.reference.question(q)[0].count >= PUT_DECIDED]
+    line = rng.choice([q for q in fit if len(q.entry) <= LINE[1]])
+    for turn, q in enumerate((line, rng.choice([q for q in fit if len(q.entry) > LINE[1]]))):
         page = Page(maker, classes, with_more(q))
         page.ask(society(rng, page))
         run_wrong(page, turn)
@@ -381,6 +394,7 @@ def check_numbers(tally):
                                ("waiting", 10, [f"through a kept {x}" for x in ("loop", "missing", "end")]),
                                ("waiting", 20, ("from a blank cell to a kept one", "another pair named than asked")),
                                ("both orders", 2, [f"behind a {x}" for x in ("question", "blank table", "further question", "correction")]),
-                               ("further 19", 2, FAULTS), ("19 at", 2, ("first cell", "middle", "last cell"))):
+                               ("further 19", 2, FAULTS), ("19 at", 2, ("first cell", "middle", "last cell")),
+                               ("19 at", 1, ("place 15 of a blank row", "place 16 of a blank row"))):
         for name in names:
             if tally[(kind, name)] < least: stop(f"too few {kind}: {name}, {tally[(kind, name)]}")
