@@ -18,7 +18,7 @@ use Rattle.schema.specs.Table.{cells}
 use Rattle.kept.specs.Kept.{stays, kept, retained}
 use Rattle.kept.specs.Range.{outOfRange, some, cellsOut}
 use Rattle.kept.proofs.Ranged.{some-none, some-one, some-more, range-low}
-use Rattle.passes.specs.Passes.{BlankIf, rowOut, Unchanged, Looked, Firsts, FirstsUnless}
+use Rattle.passes.specs.Passes.{BlankIf, EndBlankIf, rowOut, Unchanged, Looked, Firsts, FirstsUnless}
 use Rattle.passes.proofs.Rows.{next-row}
 
 -- ---- A cell.
@@ -88,6 +88,14 @@ block-more T start i true true b e = λ j l. elim (ℕ-discrete j i) [
   | no d ↦ b j (omega arith)
 ]
 
+-- The last cells of a row, of a block that ends with it.
+pub end-begins : (T : List ℕ) (start n : ℕ) (blank : Bool) → 16 ≤ n + 1 → BlankIf blank T (start + (n + 1 - 16)) 16 → EndBlankIf blank T start n 16
+end-begins T start n false l b = tt
+end-begins T start n true l b = λ p m k.
+    let i : p - (n + 1 - 16) < 16 = omega arith in
+    let e : start + p ≡ start + (n + 1 - 16) + (p - (n + 1 - 16)) = omega arith in
+    ap (cellAt T) e ∙ b (p - (n + 1 - 16)) i
+
 -- ---- A row.
 
 module _ (n limit : ℕ) (T : List ℕ) (start : ℕ) where
@@ -129,6 +137,16 @@ module _ (n limit : ℕ) (T : List ℕ) (start : ℕ) where
       → Looked n limit T start (from + count) out first
   look-over count {from} true e blank g = look-skips from count blank g
   look-over count false e blank g = absurd (true≢false e)
+
+  -- So are the cells that are left at its end.
+  pub look-ends : {from first : ℕ} {out : Bool} (b : Bool) → b ≡ true → from ≤ n + 1 → n + 1 < from + 16 → EndBlankIf b T start n 16 → Looked n limit T start from out first
+      → Looked n limit T start (n + 1) out first
+  look-ends {from} {first} {out} true e l m blank g =
+      let whole : from + (n + 1 - from) ≡ n + 1 = omega arith in
+      subst (λ (k : ℕ). Looked n limit T start k out first) whole
+      (look-skips from (n + 1 - from)
+      (λ i k. let f : start + from + i ≡ start + (from + i) = omega arith in ap (cellAt T) f ∙ blank (from + i) (omega arith) (omega arith)) g)
+  look-ends false e l m blank g = absurd (true≢false (sym e))
 
   -- Before a cell of those from the position `from` on; `changes`: one of them does not hold what is retained.
   pub record Looking (from position : ℕ) (out changes : Bool) : Type 0 where

@@ -23,6 +23,11 @@ abbrev pub BlankIf : Bool → List ℕ → ℕ → ℕ → Type 0
 BlankIf true T start count = (i : ℕ) → i < count → cellAt T (start + i) ≡ (0, 0)
 BlankIf false T start count = Unit {0}
 
+-- Where a test says so, so many cells at the end of a row of n + 1, which begins at the number `start`, are blank.
+abbrev pub EndBlankIf : Bool → List ℕ → ℕ → ℕ → ℕ → Type 0
+EndBlankIf true T start n count = (p : ℕ) → p ≤ n → n < p + count → cellAt T (start + p) ≡ (0, 0)
+EndBlankIf false T start n count = Unit {0}
+
 -- A cell that stays is out of range, among so many from the number `start` on.
 abbrev pub rowOut : ℕ → ℕ → List ℕ → ℕ → ℕ → Bool
 rowOut n limit T start count = some count (λ p. outOfRange n p (kept limit p (cellAt T (start + p))))

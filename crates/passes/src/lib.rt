@@ -11,7 +11,7 @@ ghost use Rattle.schema.specs.Cells.{cellAt, stored, HasCell};
 ghost use Rattle.schema.specs.Table.{contents};
 ghost use Rattle.kept.specs.Kept.{isResult, looksBelow, retained};
 ghost use Rattle.kept.specs.Range.{outOfRange, cellsOut};
-ghost use Rattle.passes.specs.Passes.{PassReady, BlankIf, Looked, FirstsUnless, Firsts, Unchanged, Keeps, Starts, StartsUnless};
+ghost use Rattle.passes.specs.Passes.{PassReady, BlankIf, EndBlankIf, Looked, FirstsUnless, Firsts, Unchanged, Keeps, Starts, StartsUnless};
 use cells::Cell;
 
 // How many cells are skipped at once.
@@ -71,6 +71,17 @@ fn block_blank(table: &[u32], start: usize) -> bool
     blank
 }
 
+// Are the last cells of a row blank, as many as a block has? The row begins at a number. Of a shorter row nothing is said.
+fn end_blank(table: &[u32], start: usize, n: usize) -> bool
+    requires { ⌜ (n ≤ 4096) × HasCell (now table) (start + n) ⌝ }
+    ensures { λ r. ⌜ EndBlankIf r (now (table .entry)) start n 16 ⌝ }
+{
+    if n + 1 < BLOCK {
+        return false;
+    }
+    block_blank(table, start + (n + 1 - BLOCK))
+}
+
 // Looks at the cells of a row from one position to another, with what was found before them. The row begins at a number. There is no branch in the loop
 // and the limit has 32 bits, so that the compiler tests several cells at once.
 fn look(
@@ -107,7 +118,8 @@ fn look(
     }
 }
 
-// Looks at a row, which begins at a number.
+// Looks at a row, which begins at a number. What is left behind the last whole block is passed over where the row ends with as many blank cells as a block
+// has: rows are short, so that cells looked at one by one would cost more than the blocks.
 fn look_row(table: &[u32], start: usize, n: usize, limit: u32) -> Row
     requires { ⌜ (n ≤ 4096) × (limit ≤ n) × HasCell (now table) (start + n) ⌝ }
     ensures { λ r. ⌜ Looked n limit (now (table .entry)) start (n + 1) (r .out) (r .first) ⌝ }
@@ -122,6 +134,9 @@ fn look_row(table: &[u32], start: usize, n: usize, limit: u32) -> Row
             row = look(table, start, at, at + BLOCK, n, limit, row);
         }
         at += BLOCK;
+    }
+    if end_blank(table, start, n) {
+        return row;
     }
     look(table, start, at, n + 1, n, limit, row)
 }

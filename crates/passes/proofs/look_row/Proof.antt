@@ -4,7 +4,7 @@ use native.Mathlib.Omega.{arith}
 use borrow.Author.Needs.{needs}
 use Rattle.passes.specs.Passes.{Looked}
 use mathlib.Core.Logic.{inl, inr}
-use Rattle.passes.proofs.Looking.{look-begins, look-over}
+use Rattle.passes.proofs.Looking.{look-begins, look-over, look-ends}
 use Rattle.passes.proofs.look_row.Statement.{statement}
 use Rattle.passes.proofs.look_row.Tie as tie
 
@@ -58,17 +58,28 @@ loop-again c =
       ],
     )
 
+end-blank-requires : tie.Need-end-blank-requires Inv-loop μ-loop
+end-blank-requires c κs = let r = c .before .before .before .pre in (r .0, r .2)
+
+returns : tie.Need-returns Inv-loop μ-loop
+returns c =
+    let e = c .before in
+    let l = e .before .before .loop in
+    let a = e .before .before .before .before .args in
+    let t = e .before .loop-test .left in
+    look-ends (a .n) (a .limit) (a .table .now) (a .start) (e .end-blank .result) (c .if2 .taken) (l .inv .0) (omega arith) (e .end-blank .ensures) (l .inv .1)
+
 add-look-2 : tie.Need-add-look-2 Inv-loop μ-loop
 add-look-2 c = search needs
 
 look-requires-2 : tie.Need-look-requires-2 Inv-loop μ-loop
 look-requires-2 c κs =
-    let l = c .before .loop in
-    let r = c .before .before .before .pre in
+    let l = c .before .before .before .loop in
+    let r = c .before .before .before .before .before .pre in
     (r .0, r .1, l .inv .0, omega arith, r .2, l .inv .1)
 
-returns : tie.Need-returns Inv-loop μ-loop
-returns c = c .look2 .ensures
+returns-2 : tie.Need-returns-2 Inv-loop μ-loop
+returns-2 c = c .look2 .ensures
 
 pub look-row-spec : {M : Type 1} → statement M
 look-row-spec =
@@ -86,6 +97,8 @@ look-row-spec =
     add-at
     loop-less
     loop-again
+    end-blank-requires
+    returns
     add-look-2
     look-requires-2
-    returns)
+    returns-2)
