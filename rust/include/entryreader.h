@@ -135,6 +135,23 @@ uint32_t entryreader_shorthand(
     uint8_t *out, size_t out_length,
     uint32_t (*answer)[1]);
 
+/*
+ * Stores the cells of a table of so many variables and bytes place by place: both numbers of the cell of variable A at p become cell p times V plus
+ * A - 1. Returns 0; or a refusal (3, 6, 20). Each table has twice V times (n + 1) numbers or more, and later ones are unchanged.
+ */
+uint32_t entryreader_store(
+    uint32_t variables, uint32_t length,
+    const uint32_t *table, size_t table_length,
+    uint32_t *stored, size_t stored_length);
+
+/*
+ * Takes the cells of a stored table back. Returns as entryreader_store does.
+ */
+uint32_t entryreader_restore(
+    uint32_t variables, uint32_t length,
+    const uint32_t *stored, size_t stored_length,
+    uint32_t *table, size_t table_length);
+
 #ifdef __cplusplus
 }
 #endif

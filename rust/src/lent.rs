@@ -338,3 +338,44 @@ pub fn shorthand(text: &[u8], out: &mut [u8]) -> Result<usize, Error> {
         code => Err(Error::from_code(code)),
     }
 }
+
+/// Stores the cells of a table of so many variables and bytes place by place: both numbers of the cell of variable A at p become cell p times V plus
+/// A - 1. Each table has twice V times (n + 1) numbers or more; later ones are unchanged. What the cells hold is not looked at.
+///
+/// ```
+/// use entryreader::lent::{restore, store};
+///
+/// let (table, mut stored) = ([1, 10, 2, 20, 3, 30, 4, 40], [7; 9]);
+/// store(2, 1, &table, &mut stored)?;
+/// assert_eq!(stored, [1, 10, 3, 30, 2, 20, 4, 40, 7]);
+/// let mut again = [0; 8];
+/// restore(2, 1, &stored, &mut again)?;
+/// assert_eq!(again, table);
+/// assert_eq!(store(2, 1, &table, &mut [0; 7]).unwrap_err().number(), 20);
+/// # Ok::<(), entryreader::Error>(())
+/// ```
+pub fn store(variables: u32, length: u32, table: &[u32], stored: &mut [u32]) -> Result<(), Error> {
+    match calls::store(variables, length, table, stored) {
+        0 => Ok(()),
+        code => Err(Error::from_code(code)),
+    }
+}
+
+/// Takes the cells of a table that was stored back: [`store`] the other way.
+///
+/// ```
+/// use entryreader::lent::restore;
+///
+/// assert_eq!(restore(257, 0, &[], &mut []).unwrap_err().number(), 3);
+/// ```
+pub fn restore(
+    variables: u32,
+    length: u32,
+    stored: &[u32],
+    table: &mut [u32],
+) -> Result<(), Error> {
+    match calls::restore(variables, length, stored, table) {
+        0 => Ok(()),
+        code => Err(Error::from_code(code)),
+    }
+}

@@ -52,11 +52,13 @@ pub enum Refusal {
     /// success or a failure whose reach is below its place; for a correction a cell that it retains, for a further question any of the first V times
     /// (n + 1).
     Cell,
+    /// 20, of the archive: one of the two tables has fewer than twice V times (n + 1) numbers.
+    Tables,
 }
 
 impl Refusal {
     /// In the order of their numbers, from 1 on.
-    const ALL: [Refusal; 19] = [
+    const ALL: [Refusal; 20] = [
         Refusal::NotLines,
         Refusal::Field,
         Refusal::Header,
@@ -76,9 +78,10 @@ impl Refusal {
         Refusal::Allowance,
         Refusal::Corrected,
         Refusal::Cell,
+        Refusal::Tables,
     ];
 
-    /// The refusal of a number from 1 to 19.
+    /// The refusal of a number from 1 to 20.
     ///
     /// ```
     /// use entryreader::Refusal;
@@ -92,7 +95,7 @@ impl Refusal {
             .find(|refusal| refusal.number() == number)
     }
 
-    /// Its number, from 1 to 19.
+    /// Its number, from 1 to 20.
     ///
     /// ```
     /// use entryreader::Refusal;
@@ -149,6 +152,7 @@ impl Refusal {
             Refusal::Cell => {
                 "a cell of the table holds what no question about this entry leaves there"
             }
+            Refusal::Tables => "one of the two tables has fewer than twice V times (n + 1) numbers",
         }
     }
 

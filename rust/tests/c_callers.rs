@@ -434,6 +434,7 @@ fn types_in_header(parameter: &str) -> Vec<String> {
             let name = parameter.rfind(name_end).expect("it has a type") + 1;
             let found = match parameter[..name].trim() {
                 "const uint8_t *" => "*const u8",
+                "const uint32_t *" => "*const u32",
                 "uint8_t *" => "*mut u8",
                 "uint32_t *" => "*mut u32",
                 "uint32_t" => "u32",
@@ -464,7 +465,7 @@ fn declarations() {
         in_source,
         "header and source"
     );
-    assert_eq!(in_source.len(), 10, "{in_source:?}");
+    assert_eq!(in_source.len(), 12, "{in_source:?}");
     assert_eq!(in_source["entryreader_sheet"].len(), 4);
     assert_eq!(externs.matches(") -> u32;").count(), in_source.len());
     assert_eq!(header.matches(");\n").count(), in_source.len());

@@ -10,7 +10,8 @@ unfoldable pub sum : (ℕ → ℕ) → ℕ → ℕ
 sum f zero = 0
 sum f (suc n) = f n + sum f n
 
-sum-same : (f g : ℕ → ℕ) (n : ℕ) → ((y : ℕ) → y < n → g y ≡ f y) → sum g n ≡ sum f n
+-- Sums of equal values.
+pub sum-same : (f g : ℕ → ℕ) (n : ℕ) → ((y : ℕ) → y < n → g y ≡ f y) → sum g n ≡ sum f n
 unfolding sum
 sum-same f g zero h = refl
 sum-same f g (suc n) h =

@@ -20,6 +20,12 @@ use Rattle.opening.specs.Opening as opening
 use Rattle.opening.specs.Opening.{OpeningPromise}
 use Rattle.opening.specs.declared.Prefix.{Prefix}
 use Rattle.opening.proofs.Promised.{opening-follows}
+use Rattle.archive.specs.Archive as archive
+use Rattle.archive.specs.Archive.{MovePromise}
+use Rattle.archive.specs.Layout.{Layout}
+use Rattle.archive.specs.Refusals.{ArchiveRefuses}
+use Rattle.archive.specs.declared.Stored.{Stored}
+use Rattle.archive.proofs.Promised as archived
 use Rattle.writer.specs.Writer.{WriterPromise}
 use Rattle.finish.specs.declared.Answer.{Answer}
 use Rattle.verdict.specs.declared.Judgement.{Judgement}
@@ -37,8 +43,9 @@ use Rattle.demands.proofs.Demand3 as three
 
 -- ---- Demand 1. "A caller may pass anything .., and the call ends: with an outcome, with the machine's spent or no frame, or with one numbered refusal
 -- under exactly the condition in document 01, its table and output then unchanged." That each call ends and meets its contract, whatever it is
--- handed, is what the contracts say, which have no `requires`. For the exported calls: entryreader proofs/Demand1.antt and Opened.antt;
--- for the program's output: proofs/Output.antt; for the correction and the further question of document 02, here and in demand 3: proofs/Kept.antt.
+-- handed, is what the contracts say, which have no `requires`. For the exported calls: entryreader proofs/Demand1.antt, Opened.antt and Archived.antt;
+-- for the program's output: proofs/Output.antt; for the correction and the further question of document 02, here and in demand 3: proofs/Kept.antt, and
+-- over a table that was stored and restored: proofs/Restored.antt.
 
 -- The question.
 pub demand-1-question : (s input : List ℕ) (A p : ℕ) (table table′ work work′ : List ℕ) (r : Answer) → QuestionPromise s input A p table table′ work work′ r
@@ -63,6 +70,12 @@ pub demand-1-opening : (s input table table′ work work′ : List ℕ) (r : Pre
 demand-1-opening s input table table′ work work′ r promise x l =
     let f = opening-follows s input table work table′ work′ r promise in
     (refused-exactly f x l, then-unchanged f x l)
+
+-- Storing and restoring, of document 02, order 9: from one layout of the cells to another.
+pub demand-1-archive : (from to : Layout) (v n : ℕ) (source target target′ : List ℕ) (r : Stored) → MovePromise from to v n source target target′ r
+    → (x l : ℕ) → ((archive.told r ≡ refused x l) ↔ ArchiveRefuses v n (length source) (length target) x l) × (archive.told r ≡ refused x l → target′ ≡ target)
+demand-1-archive from to v n source target target′ r promise x l =
+    (archived.refused-exactly from to v n source target target′ r promise x l, archived.then-unchanged from to v n source target target′ r promise x l)
 
 -- The machine.
 pub demand-1-run : (s input : List ℕ) (x : Pair) (frames frames′ : List ℕ) (budget : ℕ) (r : Ending) → run.Runs s input x frames frames′ budget r

@@ -4,5 +4,6 @@ pub mod Passing
 pub mod Demand2
 pub mod Demand3
 pub mod Kept
+pub mod Restored
 pub mod Output
 pub mod Demands

@@ -77,11 +77,17 @@ module _ {A : Type 0} (o : Checked A) (When : ℕ → ℕ → Type 0) (exactly :
       let a = answered-exactly o When exactly returned-numbered (omega arith) in
       (λ e. a .0 (omega arith), λ none. let n = a .1 none in omega arith)
 
--- Where it does not return 0 it is refused, and the answer is as it was.
+-- Where it does not return 0 it is refused,
+pub refused-then : {A : Type 0} (t : Checked A) {r : ℕ} → r ≡ returned t → r ≢ 0 → (x : ℕ) × (l : ℕ) × (t ≡ refused x l)
+refused-then (refused x l) returns d = (x, l, refl)
+refused-then (accepted a) returns d = absurd (d returns)
+
+-- and the answer is as it was.
 returned-unchanged : {A : Type 0} (t : Checked A) (numbers : A → List ℕ) (answer answer′ : List ℕ) (r : ℕ) → r ≡ returned t → answer′ ≡ reported numbers answer t → r ≢ 0
     → (x : ℕ) × (l : ℕ) × (t ≡ refused x l) × (answer′ ≡ answer)
-returned-unchanged (refused x l) numbers answer answer′ r returns reports d = (x, l, refl, reports)
-returned-unchanged (accepted a) numbers answer answer′ r returns reports d = absurd (d returns)
+returned-unchanged t numbers answer answer′ r returns reports d =
+    let k = refused-then t returns d in
+    (k .0, k .1, k .2, reports ∙ ap (reported numbers answer) (k .2))
 
 -- The same of a call that answers as `handed` says.
 module _ {A : Type 0} {s : List ℕ} {h : Handed} {t : Checked A} {unchanged : Type 0} (follows : Follows A s h t unchanged) {r : ℕ} (returns : r ≡ returned t) where

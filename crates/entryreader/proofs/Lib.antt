@@ -5,3 +5,4 @@ pub mod Reported
 pub mod Demand1
 pub mod Shortened
 pub mod Opened
+pub mod Archived

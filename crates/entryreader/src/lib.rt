@@ -3,12 +3,15 @@ ghost use Prim.Native.Nat.{_≤_};
 ghost use mathlib.Core.Path.{_≡_};
 ghost use Rattle.schema.specs.Exported.{returned, reported, Fits};
 ghost use Rattle.grammar.specs.Promise.{told as read};
+ghost use Rattle.archive.specs.Archive.{told as moves};
 ghost use Rattle.opening.specs.Opening.{told as opens};
 ghost use Rattle.shorthand.specs.Promise.{told};
 ghost use Rattle.verdict.specs.Verdict.{numbers};
 ghost use Rattle.reports.specs.Numbers.{WriterNumbers, CheckNumbers};
 ghost use Rattle.entryreader.specs.Codes.{sheetNumbers, SheetNumbers, codeOf, VerdictCode, JudgeNumbers, QuestionNumbers, CorrectionNumbers, FurtherNumbers, lengthNumbers, ShorthandNumbers};
+ghost use Rattle.entryreader.specs.Archived.{StoreNumbers, RestoreNumbers};
 ghost use Rattle.entryreader.specs.Opened.{openingNumbers, OpeningNumbers};
+use archive::Stored;
 use grammar::sheet::Rules;
 use grammar::sheet::Sheet;
 use grammar::sheet::read_sheet;
@@ -238,4 +241,43 @@ pub extern "C" fn entryreader_opening(
 {
     let found = opening::opening(sheet, input, table, work);
     report_opening(found, answer)
+}
+
+// 0, or 100 plus the number of a refusal.
+fn report_stored(stored: Stored) -> u32
+    requires { ⌜ Fits (λ _. 0) (moves stored) ⌝ }
+    ensures { λ r. ⌜ r ≡ returned (moves stored) ⌝ }
+{
+    match stored {
+        Stored::Done => 0,
+        Stored::Refused(number, _) => 100 + number,
+    }
+}
+
+// Stores a table of so many variables, of an input of so many bytes, by position: 0, or 100 plus the number of a refusal, with nothing changed.
+#[no_mangle]
+pub extern "C" fn entryreader_store(
+    variables: u32,
+    length: u32,
+    table: &[u32],
+    stored: &mut [u32],
+) -> u32
+    ensures { λ r. ⌜ StoreNumbers variables length (now (table .entry)) (now (stored .entry)) (now (stored .exit)) r ⌝ }
+{
+    let found = archive::store(variables, length, table, stored);
+    report_stored(found)
+}
+
+// Restores a table that was stored by position: 0, or 100 plus the number of a refusal, with nothing changed.
+#[no_mangle]
+pub extern "C" fn entryreader_restore(
+    variables: u32,
+    length: u32,
+    stored: &[u32],
+    table: &mut [u32],
+) -> u32
+    ensures { λ r. ⌜ RestoreNumbers variables length (now (stored .entry)) (now (table .entry)) (now (table .exit)) r ⌝ }
+{
+    let found = archive::restore(variables, length, stored, table);
+    report_stored(found)
 }

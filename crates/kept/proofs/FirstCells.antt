@@ -6,6 +6,7 @@ use native.Mathlib.Omega.{arith}
 use lib.ListN.{length, getD, take, drop, length-append, length-drop, List·getD-append}
 use lib.Seq.{drop-at, getD-take, length-take-le}
 use Rattle.grammar.specs.Rule.{Rule}
+use Rattle.schema.specs.Cells.{cellAt}
 use Rattle.schema.specs.Closed.{Closed}
 use Rattle.schema.specs.Derivation.{Pair, _at_}
 use Rattle.schema.specs.Examined.{Reaches}
@@ -15,22 +16,27 @@ use Rattle.schema.proofs.Cell.{PairWithin, cell-below}
 use Rattle.kept.specs.Kept.{kept, retained, KeptTable, blank, asked, further, corrected}
 
 -- The first N numbers of one table, and behind them what another has there.
-abbrev joined : ℕ → List ℕ → List ℕ → List ℕ
+abbrev pub joined : ℕ → List ℕ → List ℕ → List ℕ
 joined N T U = take N T ++ drop N U
 
 module _ (N : ℕ) (T U : List ℕ) (room : N ≤ length T) where
   joined-at : (i : ℕ) → i < N → getD (joined N T U) i 0 ≡ getD T i 0
   joined-at i l = List·getD-append (take N T) (drop N U) 0 i (rw (length-take-le N T room) l) ∙ getD-take N T i 0 l
 
-  joined-later : drop N (joined N T U) ≡ drop N U
+  pub joined-later : drop N (joined N T U) ≡ drop N U
   joined-later = drop-at (take N T) (drop N U) N (length-take-le N T room)
 
-  joined-length : N ≤ length U → length (joined N T U) ≡ length U
+  pub joined-length : N ≤ length U → length (joined N T U) ≡ length U
   joined-length l =
       let a = length-append (take N T) (drop N U) in
       let b = length-take-le N T room in
       let c = length-drop N U in
       omega arith
+
+-- The first N cells are those of the one table.
+pub joined-cell : (N : ℕ) (T U : List ℕ) → 2 * N ≤ length T → (i : ℕ) → i < N → cellAt (joined (2 * N) T U) i ≡ cellAt T i
+joined-cell N T U room i l =
+    ap₂ {C = ℕ × ℕ} (λ (a b : ℕ). (a, b)) (joined-at (2 * N) T U room (2 * i) (omega arith)) (joined-at (2 * N) T U room (2 * i + 1) (omega arith))
 
 module _ (rule : ℕ → Rule) (v : ℕ) (closed : Closed v rule) where
   -- A table that a question leaves, by its first cells.
@@ -56,9 +62,7 @@ module _ (rule : ℕ → Rule) (v : ℕ) (closed : Closed v rule) where
     }
 
   joined-cells : (n : ℕ) (O U : List ℕ) → 2 * cells v n ≤ length O → (A p : ℕ) → Within v n A p → contents n (joined (2 * cells v n) O U) (A at p) ≡ contents n O (A at p)
-  joined-cells n O U l A p w =
-      let i = cell-below v n (A at p) w in
-      ap₂ {C = ℕ × ℕ} (λ (a b : ℕ). (a, b)) (joined-at (2 * cells v n) O U l (2 * cell n (A at p)) (omega arith)) (joined-at (2 * cells v n) O U l (2 * cell n (A at p) + 1) (omega arith))
+  joined-cells n O U l A p w = joined-cell (cells v n) O U l (cell n (A at p)) (cell-below v n (A at p) w)
 
   -- A kept table, by its first cells.
   pub kept-first : {s T : List ℕ} → KeptTable rule v s T → (T′ : List ℕ) → 2 * cells v (length s) ≤ length T → 2 * cells v (length s) ≤ length T′

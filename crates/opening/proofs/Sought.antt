@@ -7,19 +7,14 @@ use native.Mathlib.Decide.{ℕ-discrete}
 use native.Mathlib.Nat.{mul-le-mul-left}
 use native.Mathlib.Omega.{arith}
 use lib.ListN.{length, take, drop, length-append, take-append-drop}
-use lib.Seq.{drop-drop, take-length}
+use lib.Seq.{take-length}
 use Rattle.grammar.specs.Rule.{Rule}
 use Rattle.schema.specs.Derivation.{Pair, _at_, Loops}
 use Rattle.schema.specs.Table.{cells}
+use Rattle.schema.proofs.Cells.{later-from}
 use Rattle.memo.specs.Ask.{AskReady}
 use Rattle.opening.specs.Opening.{Shortest, Asked}
 use Rattle.opening.specs.Seeking.{AskedLoop, SaysLoop, Between, Found}
-
--- What is unchanged from a number on is unchanged from a later one on.
-later-from : (m N : ℕ) (T U : List ℕ) → m ≤ N → drop m T ≡ drop m U → drop N T ≡ drop N U
-later-from m N T U l e =
-    let q : m + (N - m) ≡ N = omega arith in
-    ap (λ (k : ℕ). drop k T) (sym q) ∙ sym (drop-drop (N - m) m T) ∙ ap (drop (N - m)) e ∙ drop-drop (N - m) m U ∙ ap (λ (k : ℕ). drop k U) q
 
 -- A list that is not longer than the input: an opening of it, or the whole.
 module _ (v : ℕ) (input s : List ℕ) (l : length s ≤ length input) where

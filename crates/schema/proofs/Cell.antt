@@ -4,9 +4,9 @@ use mathlib.Core.Path.{_≡_, sym, ap, ap₂, _∙_}
 use Prim.Native.Nat.{ℕ, _+_, _-_, _*_, _/_, _%_, _≤_, _<_}
 use native.Mathlib.Nat.{suc-mul, mul-le-mul-right, add-comm, add-mul-div-right, add-mul-mod-self-right, div-eq-of-lt, mod-eq-of-lt, mod-lt, div-add-mod', div-lt-iff-lt-mul}
 use native.Mathlib.Omega.{arith}
-use Rattle.schema.specs.Cells.{heldAt, reachAt}
+use Rattle.schema.specs.Cells.{heldAt}
 use Rattle.schema.specs.Derivation.{Pair, _at_}
-use Rattle.schema.specs.Table.{Within, cell, cells, held, reach}
+use Rattle.schema.specs.Table.{Within, cell, cells, held}
 
 -- The pair of a cell number.
 abbrev pub pairOf : ℕ → ℕ → Pair
@@ -16,7 +16,8 @@ pairOf n i = (i / (n + 1) + 1) at (i % (n + 1))
 abbrev pub PairWithin : ℕ → ℕ → Pair → Type 0
 PairWithin v n (A at p) = Within v n A p
 
-rows-apart : (a b m : ℕ) → a < b → a * m + m ≤ b * m
+-- A row of m cells ends before a later one begins.
+pub rows-apart : (a b m : ℕ) → a < b → a * m + m ≤ b * m
 rows-apart a b m l = rw (← suc-mul a m) (mul-le-mul-right m l)
 
 -- A cell is below V times (n + 1).
@@ -50,9 +51,6 @@ cell-pair n i =
 -- What a table holds for a number's pair, the cell of the number holds.
 pub held-pair : (n : ℕ) (T : List ℕ) (i : ℕ) → held n T (pairOf n i) ≡ heldAt T i
 held-pair n T i = ap (λ (k : ℕ). heldAt T k) (cell-pair n i)
-
-pub reach-pair : (n : ℕ) (T : List ℕ) (i : ℕ) → reach n T (pairOf n i) ≡ reachAt T i
-reach-pair n T i = ap (λ (k : ℕ). reachAt T k) (cell-pair n i)
 
 -- A number below V times (n + 1) is the cell of a pair.
 pub pair-within : (v n i : ℕ) → i < cells v n → PairWithin v n (pairOf n i)

@@ -2,10 +2,10 @@
 use mathlib.Core.List.{List}
 use mathlib.Core.Logic.{_≢_}
 use mathlib.Core.Path.{_≡_, sym, ap, ap₂, _∙_, subst}
-use Prim.Native.Nat.{ℕ, _+_, _*_, _<_}
+use Prim.Native.Nat.{ℕ, _+_, _-_, _*_, _≤_, _<_}
 use native.Mathlib.Omega.{arith}
 use lib.ListN.{length, getD, set, drop, length-set}
-use lib.Seq.{getD-set-same, getD-set-other, getD-drop, drop-set-lt, set-set, set-comm, lt-length-set}
+use lib.Seq.{getD-set-same, getD-set-other, getD-drop, drop-set-lt, drop-drop, set-set, set-comm, lt-length-set}
 use Rattle.calls.proofs.Table.{Mark, Put}
 use Rattle.schema.specs.Cells.{heldAt, reachAt, cellAt, stored, HasCell}
 
@@ -46,6 +46,12 @@ stored-later N T i c m l = drop-set-lt (2 * N) (set T (2 * i) c) (2 * i + 1) m (
 pub stored-length : (T : List ℕ) (i c m : ℕ) → length (stored T i c m) ≡ length T
 unfolding stored
 stored-length T i c m = length-set (set T (2 * i) c) (2 * i + 1) m ∙ length-set T (2 * i) c
+
+-- What is unchanged from a number on is unchanged from a later one on.
+pub later-from : (m N : ℕ) (T U : List ℕ) → m ≤ N → drop m T ≡ drop m U → drop N T ≡ drop N U
+later-from m N T U l e =
+    let q : m + (N - m) ≡ N = omega arith in
+    ap (λ (k : ℕ). drop k T) (sym q) ∙ sym (drop-drop (N - m) m T) ∙ ap (drop (N - m)) e ∙ drop-drop (N - m) m U ∙ ap (λ (k : ℕ). drop k U) q
 
 -- Where two tables are the same from the cell of a number on, each cell there is the same.
 pub cell-later : (N : ℕ) (T U : List ℕ) → drop (2 * N) T ≡ drop (2 * N) U → (p : ℕ) → cellAt T (N + p) ≡ cellAt U (N + p)

@@ -1,0 +1,57 @@
+use Prim.Native.Nat.{_-_}
+use native.Mathlib.Omega.{arith}
+use borrow.Author.Needs.{needs}
+use Rattle.archive.proofs.Turning.{ColumnTurning, column-begins, cell-small, cell-inside, next-small, column-goes-on, column-ends}
+use Rattle.archive.proofs.turn_column.Statement.{statement}
+use Rattle.archive.proofs.turn_column.Tie as tie
+
+abbrev Inv-loop : tie.InvT-loop
+Inv-loop rows columns column start source target₀ row₀ from₀ target row from = ColumnTurning rows columns column start source target₀ target row from
+
+abbrev μ-loop : tie.MeasureT-loop
+μ-loop rows columns column start source target₀ row₀ from₀ target row from = rows - row
+
+loop-holds : tie.Need-loop-holds Inv-loop μ-loop
+loop-holds c = column-begins _ _ _ _ _ _
+
+add-copy-cell : tie.Need-add-copy-cell Inv-loop μ-loop
+add-copy-cell c = omega (arith, cell-small (c .before .before .before .before .before .pre) (c .before .before .loop .inv))
+
+copy-cell-requires : tie.Need-copy-cell-requires Inv-loop μ-loop
+copy-cell-requires c κs = cell-inside (c .before .before .before .before .before .pre) (c .before .before .loop .inv) (c .before .loop-test .taken)
+
+add-from : tie.Need-add-from Inv-loop μ-loop
+add-from c = omega (arith, next-small (c .before .before .before .before .before .before .before .before .pre) (c .before .before .before .before .before .loop .inv) (c .before .before .before .before .loop-test .taken))
+
+add-row : tie.Need-add-row Inv-loop μ-loop
+add-row c = search needs
+
+loop-less : tie.Need-loop-less Inv-loop μ-loop
+loop-less c = search needs
+
+loop-again : tie.Need-loop-again Inv-loop μ-loop
+loop-again c =
+    column-goes-on (c .before .before .before .before .before .before .before .before .pre) (c .before .before .before .before .before .loop .inv) (c .before .before .before .before .loop-test .taken)
+    (c .before .before .copy-cell .ensures)
+
+same-length : tie.Need-same-length Inv-loop μ-loop
+same-length c = c .before .loop .inv .done .size
+
+returns : tie.Need-returns Inv-loop μ-loop
+returns c = column-ends (c .loop-test .left) (c .before .loop .inv)
+
+pub turn-column-spec : {M : Type 1} → statement M
+turn-column-spec =
+    tie.close
+    (tie.spec
+    Inv-loop
+    μ-loop
+    loop-holds
+    add-copy-cell
+    copy-cell-requires
+    add-from
+    add-row
+    loop-less
+    loop-again
+    same-length
+    returns)

@@ -1,0 +1,134 @@
+// Tables stored by position, and restored: rows of cells turned into columns.
+ghost use mathlib.Core.Path.{_≡_};
+ghost use Prim.Native.Nat.{_≤_};
+ghost use Rattle.schema.specs.Cells.{heldAt, reachAt, stored, HasCell};
+ghost use Rattle.archive.specs.Archive.{told, StorePromise, RestorePromise};
+ghost use Rattle.archive.specs.Refusals.{tablesShort, movable};
+ghost use Rattle.archive.specs.Turn.{ColumnReady, ColumnTurned, TurnReady, Turned, Sides, TurnPromise};
+use cells::Cell;
+
+// What storing and restoring answer: it is done; or the number and the line of a refusal.
+pub enum Stored {
+    Done,
+    Refused(u32, u32),
+}
+
+// Copies a cell, both its numbers.
+fn copy_cell(source: &[u32], from: usize, target: &mut [u32], to: usize)
+    requires { ⌜ HasCell (now source) from × HasCell (now target) to ⌝ }
+    ensures { λ _. ⌜ now (target .exit) ≡ stored (now (target .entry)) to (heldAt (now (source .entry)) from) (reachAt (now (source .entry)) from) ⌝ }
+{
+    let cell = Cell::load(source, from);
+    cell.store(target, to);
+}
+
+// Copies a column of the source's rows into the target, one cell behind the other from the cell `start` on.
+fn turn_column(
+    rows: usize,
+    columns: usize,
+    column: usize,
+    start: usize,
+    source: &[u32],
+    target: &mut [u32],
+)
+    requires { ⌜ ColumnReady rows columns column start (now source) (now target) ⌝ }
+    ensures { λ _. ⌜ ColumnTurned columns column start rows (now (source .entry)) (now (target .entry)) (now (target .exit)) ⌝ }
+{
+    let mut row: usize = 0;
+    let mut from = column;
+    while row < rows {
+        copy_cell(source, from, target, start + row);
+        from += columns;
+        row += 1;
+    }
+}
+
+// Turns rows of cells into columns, along the target.
+fn turn(rows: usize, columns: usize, source: &[u32], target: &mut [u32])
+    requires { ⌜ TurnReady rows columns (now source) (now target) ⌝ }
+    ensures { λ _. ⌜ Turned rows columns columns (now (source .entry)) (now (target .entry)) (now (target .exit)) ⌝ }
+{
+    let mut column: usize = 0;
+    let mut start: usize = 0;
+    while column < columns {
+        turn_column(rows, columns, column, start, source, target);
+        start += rows;
+        column += 1;
+    }
+}
+
+// Refusal 20: one of two tables has fewer than two numbers for each cell.
+fn too_short(variables: u32, n: u32, source: usize, target: usize) -> bool
+    requires { ⌜ (variables ≤ 256) × (n ≤ 4096) ⌝ }
+    ensures { λ r. ⌜ r ≡ tablesShort variables n source target ⌝ }
+{
+    let due = 2 * (variables as usize * (n as usize + 1));
+    if source < due {
+        return true;
+    }
+    target < due
+}
+
+// The first refusal, or that there is none.
+fn admit(variables: u32, n: u32, source: usize, target: usize) -> Stored
+    ensures { λ r. ⌜ told r ≡ movable variables n source target ⌝ }
+{
+    if variables < 1 {
+        return Stored::Refused(3, 0);
+    }
+    if 256 < variables {
+        return Stored::Refused(3, 0);
+    }
+    if 4096 < n {
+        return Stored::Refused(6, 0);
+    }
+    if too_short(variables, n, source, target) {
+        return Stored::Refused(20, 0);
+    }
+    Stored::Done
+}
+
+// Turns rows of cells into columns, unless something is refused: the rows of the variables, or those of the positions.
+fn turn_table(
+    variables: u32,
+    n: u32,
+    rows: usize,
+    columns: usize,
+    source: &[u32],
+    target: &mut [u32],
+) -> Stored
+    requires { ⌜ Sides variables n rows columns ⌝ }
+    ensures { λ r. ⌜ TurnPromise variables n rows columns (now (source .entry)) (now (target .entry)) (now (target .exit)) r ⌝ }
+{
+    let admitted = admit(variables, n, source.len(), target.len());
+    match admitted {
+        Stored::Refused(number, line) => Stored::Refused(number, line),
+        Stored::Done => {
+            turn(rows, columns, source, target);
+            Stored::Done
+        }
+    }
+}
+
+// Stores a table of so many variables, of an input of so many bytes, by position.
+pub fn store(variables: u32, length: u32, table: &[u32], stored: &mut [u32]) -> Stored
+    ensures { λ r. ⌜ StorePromise variables length (now (table .entry)) (now (stored .entry)) (now (stored .exit)) r ⌝ }
+{
+    let columns = length as usize + 1;
+    turn_table(
+        variables,
+        length,
+        variables as usize,
+        columns,
+        table,
+        stored,
+    )
+}
+
+// Restores a table that was stored by position.
+pub fn restore(variables: u32, length: u32, stored: &[u32], table: &mut [u32]) -> Stored
+    ensures { λ r. ⌜ RestorePromise variables length (now (stored .entry)) (now (table .entry)) (now (table .exit)) r ⌝ }
+{
+    let rows = length as usize + 1;
+    turn_table(variables, length, rows, variables as usize, stored, table)
+}
