@@ -29,6 +29,8 @@ def holds(outcome): return CELLS.get(outcome, "success") if outcome else "blank"
 class Page:
     """A kept entry with its table, about which societies ask."""
 
+    asked, corrected = "further question", "further's correction"   # in the summary
+
     def __init__(self, maker, classes, q, blank=False):
         self.maker, self.classes, self.first, self.q, self.c = maker, classes, q, q, 0
         self.rules = maker.reference.module.read_sheet(q.sheet).rules
@@ -64,7 +66,7 @@ class Page:
         q, direct, held = self.q._replace(variable=pair[0], place=pair[1]), self.direct(pair), holds(self.cell(pair)[0])
         expected, count = self.expected(direct)
         self.note(direct, pair, count)
-        found = self.maker.further(self.first.entry, q, self.table, f"{held:10}  {q.group}")
+        found = self.maker.further(self.first.entry, q, self.table, f"{held:10}  {q.group}", self.asked)
         if self.maker.reference.refused(found): stop(f"refused with {found.number}: {q}")
         fresh = self.maker.reference.question(q)[0]
         if found[:3] != fresh[:3]: stop(f"a further question says {found}, a fresh one {fresh}: {q}")
@@ -100,7 +102,7 @@ class Page:
         """Makes the byte at c another, and asks about a pair."""
         self.q, self.c = with_byte(self.q, c, byte), c
         q = self.q._replace(variable=pair[0], place=pair[1])
-        found = self.maker.correction(self.first.entry, q, c, byte, self.table, "further's correction")
+        found = self.maker.correction(self.first.entry, q, c, byte, self.table, self.corrected)
         if self.maker.reference.refused(found): stop(f"refused with {found.number}: {q}")
         self.before = "correction"
 
@@ -113,7 +115,7 @@ class Page:
         """A further question that must be refused with this number. The table stays as it is."""
         q = self.q._replace(**change)
         table = self.table[:q.x]
-        found = self.maker.further(self.first.entry, q, table, f"{'refused':7} {number:2}  {q.group}")
+        found = self.maker.further(self.first.entry, q, table, f"{'refused':7} {number:2}  {q.group}", self.asked)
         if not self.maker.reference.refused(found) or found.number != number: stop(f"not refused with {number}: {q}")
         if table != self.table[:q.x]: stop(f"a refusal changes the table: {q}")
 

@@ -5,7 +5,7 @@
 
 READER is an implementation of documents 01 and 02 in Python, reader.py, made apart from this repository. RANGES are the classes of the
 bytes, or a file with them, as 48-57:1,9:4 and so on; a byte in none has class 0. The default is document 01's with document 02's order 5, and
-reader.py's own classes must agree with it; all else is as of order 8. lua5.4 and lua-lpeg are installed from Debian where they are absent. It
+reader.py's own classes must agree with it; all else is as of order 9. lua5.4 and lua-lpeg are installed from Debian where they are absent. It
 is run by hand; a second run writes the same bytes.
 
 What comes from where:
@@ -13,7 +13,8 @@ What comes from where:
                     that may be left recursive. Each match is a process of its own with a limit of time, which ends this script.
   reader.py         loops; outcome and end where LPeg refuses the rules or would take too many calls; counts, tables, refusals,
                     the machine's runs, readings and what the checker says of them; corrections (corrections.py); openings
-                    (openings.py) and further questions (further.py), with a direct evaluation (direct.py) beside it.
+                    (openings.py) and further questions (further.py), with a direct evaluation (direct.py) beside it; tables
+                    stored by place (archive.py), with the document's formula beside it.
 Where both judge they must agree, or this script ends with an error. k and h, from which the machine's budgets and rooms are chosen, are
 computed by the definition. Nothing comes from the program under test. The layout of the files is described in
 crates/test_questions/src/main.rt.
@@ -29,6 +30,7 @@ import threading
 HERE = os.path.dirname(os.path.abspath(__file__))
 sys.path.append(os.path.join(HERE, ".."))
 
+import archive
 import corrections
 import further
 import openings
@@ -40,7 +42,7 @@ CRATE = os.path.join(HERE, "..", "..", "crates", "test_questions")
 
 CLASSES = ("48-57:1,65-90:2,97-122:3,9:4,32:4,33-47:5,58-64:5,91-96:5,123-126:5,"
            "192-214:2,216-222:2,223-246:3,248-255:3,160:4,161-191:5,215:5,247:5,128-159:6")
-ORDER = 8               # reader.py answers as of this order of document 02
+ORDER = 9               # reader.py answers as of this order of document 02
 NO_REACH = 4            # as of this one only cells above the corrected byte stay
 
 FILE_BYTES = 262144     # the program's buffers
@@ -49,10 +51,11 @@ NUMBERS = questions.NUMBERS     # of the program's table, and of its work slice,
 UNTOUCHED_NUMBER, UNTOUCHED_BYTE = 77777, 42
 MODULUS = 9999991
 
-QUESTION, MACHINE, READING, DAMAGE, KEPT, CORRECTION, PUT, OPENING, FURTHER, BLANK = range(10)     # tasks of a request
-WRITER, CHECKER, END, CORRECTED, BEFORE, OPENED, ASKED, BLANKED = 2, 3, 5, 6, 7, 8, 9, 10         # kinds of answers beside the tasks
+# Tasks of a request, and kinds of answers beside them.
+QUESTION, MACHINE, READING, DAMAGE, KEPT, CORRECTION, PUT, OPENING, FURTHER, BLANK, STORE, RESTORE = range(12)
+WRITER, CHECKER, END, CORRECTED, BEFORE, OPENED, ASKED, BLANKED, STORED, RESTORED = 2, 3, 5, 6, 7, 8, 9, 10, 11, 12
 CODES = {"success": 0, "failure": 1, "loop": 2, "missing": 3, "end": 4, "spent": 6, "no frame": 7}
-NO_OPENING, REFUSED = 8, 9
+DONE, NO_OPENING, REFUSED = 0, 8, 9
 
 LPEG_CALLS = 3000000    # LPeg is asked where it takes at most so many calls
 LPEG_SECONDS = 120
@@ -383,11 +386,11 @@ class Maker:
         self.answered(CORRECTED, name, number, q, found, table)
         return found
 
-    def further(self, stored, q, table, last):
+    def further(self, stored, q, table, last, name):
         """A further question about a kept entry, with its line of SOURCES.txt."""
         found = self.reference.further(q, table)
         number = self.files.request(q._replace(entry=stored), FURTHER, len(table), q.y)
-        source = self.answered(ASKED, "further question", number, q, found, table)
+        source = self.answered(ASKED, name, number, q, found, table)
         outcome = "refused" if self.reference.refused(found) else found.outcome
         self.further_sources.append(source_line(number, q, outcome, source, last))
         return found
@@ -397,6 +400,24 @@ class Maker:
         number = self.files.request(stored, PUT, at, x)
         self.files.answer(number, BEFORE, 0, 0, 0, table[at], 0)
         table[at] = x
+
+    # Tables stored by place.
+
+    def filled(self, count):
+        """So many numbers of a table as they stand before a call."""
+        return [UNTOUCHED_NUMBER] * count
+
+    def store(self, *words): return self.moved(STORE, STORED, self.reference.module.store, *words)
+
+    def restore(self, *words): return self.moved(RESTORE, RESTORED, self.reference.module.restore, *words)
+
+    def moved(self, task, kind, call, q, shape, source, target):
+        """Moves the cells of a shape, V and n, from a table to one that is filled; a refusal, or None."""
+        found = call(*shape, source, target)
+        number = self.files.request(q._replace(variable=shape[0], place=shape[1]), task, len(source), len(target))
+        four = (REFUSED, found.number, found.line, 0) if self.reference.refused(found) else (DONE, 0, 0, 0)
+        self.files.answer(number, kind, *four, summed(target))
+        return found
 
     # Openings.
 
@@ -456,7 +477,7 @@ def summary(maker, sizes, ranges):
                  "near the end", "refused with 19", "puts", "openings", "opening kind", "opening's entry", "least opening", "m, named place",
                  "opening judge", "further chains", "further questions", "further question judge", "further's entry", "asked cell",
                  "call before", "newly decided", "waiting", "both orders", "further's corrections", "further's correction judge",
-                 "further 19", "19 at", "taken"):
+                 "further 19", "19 at", "taken", *archive.KINDS):
         for (k, name), count in sorted(maker.tally.items()):
             if k == kind: out.append(f"{kind:17} {count:6}  {name}")
         out.append("")
@@ -475,6 +496,8 @@ whole entry, of the least opening and of the one that is a byte shorter. Where t
 if it is named as the judge.
 Further questions have lines of their own behind those of the questions, with what the asked cell holds before the call. The direct
 evaluation agrees with every answer of theirs that is no refusal, with the count and with the whole table.
+Tables stored by place and taken back have no lines; the further questions over them, which have, are the last ones. Stored cells are
+reader.py's, and the document's formula, written down in archive.py, agrees; the numbers of the refusals are given there too.
 
 """
 
@@ -516,6 +539,7 @@ def make(options):
         corrections.run(maker, asked)
         openings.run(maker, asked, classes)
         further.run(maker, asked, classes)
+        archive.run(maker, asked, classes)
     text = summary(maker, maker.files.write(), ranges)
     write_sources(maker, text)
     print(text)
@@ -523,6 +547,7 @@ def make(options):
     corrections.check_numbers(maker.tally)
     openings.check_numbers(maker.tally)
     further.check_numbers(maker.tally)
+    archive.check_numbers(maker.tally)
 
 
 def main():

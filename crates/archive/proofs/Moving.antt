@@ -33,19 +33,19 @@ module _ (v n : ℕ) (S T : List ℕ) where
       }
 
   -- The rows of the variables become columns,
-  pub stores : {T′ : List ℕ} → Turned v (n + 1) (n + 1) S T T′ → Moved byVariable byPosition v n S T T′
+  pub stores : {T′ : List ℕ} → Turned v (n + 1) 0 (n + 1) S T T′ → Moved byVariable byPosition v n S T T′
   stores {T′} t =
       let m = mul-comm (n + 1) v in
       record {
-        moves = λ A p w. t .turns (A - 1) p (omega (arith, w .variable .0, w .variable .1)) (omega (arith, w .position));
+        moves = λ A p w. t .turns (A - 1) p (omega (arith, w .variable .0, w .variable .1)) (omega arith) (omega (arith, w .position));
         later = ap (λ (k : ℕ). drop (2 * k) T′) (sym m) ∙ t .later ∙ ap (λ (k : ℕ). drop (2 * k) T) m;
         size = t .size;
       }
 
   -- or the rows of the positions do.
-  pub restores : {T′ : List ℕ} → Turned (n + 1) v v S T T′ → Moved byPosition byVariable v n S T T′
+  pub restores : {T′ : List ℕ} → Turned (n + 1) v 0 v S T T′ → Moved byPosition byVariable v n S T T′
   restores t = record {
-    moves = λ A p w. t .turns p (A - 1) (omega (arith, w .position)) (omega (arith, w .variable .0, w .variable .1));
+    moves = λ A p w. t .turns p (A - 1) (omega (arith, w .position)) (omega arith) (omega (arith, w .variable .0, w .variable .1));
     later = t .later;
     size = t .size;
   }
@@ -55,17 +55,17 @@ module _ (v n : ℕ) (S T : List ℕ) where
 module _ (v n rows columns : ℕ) (S T : List ℕ) {q : Stored} (admits : told q ≡ movable v n (length S) (length T)) where
   pub turns-none : {x l : ℕ} → q ≡ Refused x l → TurnPromise v n rows columns S T T (Refused x l)
   turns-none {x} {l} e =
-      subst (λ (o : Checked (Unit {0})). Unless o (Turned rows columns columns S T T) T T (refused x l)) (sym (ap told e) ∙ admits) (refl, refl)
+      subst (λ (o : Checked (Unit {0})). Unless o (Turned rows columns 0 columns S T T) T T (refused x l)) (sym (ap told e) ∙ admits) (refl, refl)
 
-  pub turns-all : {T′ : List ℕ} → q ≡ Done → Turned rows columns columns S T T′ → TurnPromise v n rows columns S T T′ Done
+  pub turns-all : {T′ : List ℕ} → q ≡ Done → Turned rows columns 0 columns S T T′ → TurnPromise v n rows columns S T T′ Done
   turns-all {T′} e t =
-      subst (λ (o : Checked (Unit {0})). Unless o (Turned rows columns columns S T T′) T T′ (accepted tt)) (sym (ap told e) ∙ admits) (refl, t)
+      subst (λ (o : Checked (Unit {0})). Unless o (Turned rows columns 0 columns S T T′) T T′ (accepted tt)) (sym (ap told e) ∙ admits) (refl, t)
 
 -- and to that of moved cells.
-pub moves-by : (from to : Layout) (v n rows columns : ℕ) (S T T′ : List ℕ) (r : Stored) → (Turned rows columns columns S T T′ → Moved from to v n S T T′)
+pub moves-by : (from to : Layout) (v n rows columns : ℕ) (S T T′ : List ℕ) (r : Stored) → (Turned rows columns 0 columns S T T′ → Moved from to v n S T T′)
     → TurnPromise v n rows columns S T T′ r → MovePromise from to v n S T T′ r
 moves-by from to v n rows columns S T T′ r moves = by-test (movable v n (length S) (length T))
   where
-    by-test : (o : Checked (Unit {0})) → Unless o (Turned rows columns columns S T T′) T T′ (told r) → Unless o (Moved from to v n S T T′) T T′ (told r)
+    by-test : (o : Checked (Unit {0})) → Unless o (Turned rows columns 0 columns S T T′) T T′ (told r) → Unless o (Moved from to v n S T T′) T T′ (told r)
     by-test (refused x l) p = p
     by-test (accepted u) p = (p .0, moves (p .1))

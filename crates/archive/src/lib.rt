@@ -4,7 +4,7 @@ ghost use Prim.Native.Nat.{_≤_};
 ghost use Rattle.schema.specs.Cells.{heldAt, reachAt, stored, HasCell};
 ghost use Rattle.archive.specs.Archive.{told, StorePromise, RestorePromise};
 ghost use Rattle.archive.specs.Refusals.{tablesShort, movable};
-ghost use Rattle.archive.specs.Turn.{ColumnReady, ColumnTurned, TurnReady, Turned, Sides, TurnPromise};
+ghost use Rattle.archive.specs.Turn.{AcrossReady, Across, BlockReady, BlockTurned, BlocksReady, BlocksTurned, TurnReady, Turned, Sides, TurnPromise};
 use cells::Cell;
 
 // What storing and restoring answer: it is done; or the number and the line of a refusal.
@@ -22,39 +22,80 @@ fn copy_cell(source: &[u32], from: usize, target: &mut [u32], to: usize)
     cell.store(target, to);
 }
 
-// Copies a column of the source's rows into the target, one cell behind the other from the cell `start` on.
-fn turn_column(
+// Copies cells that stand one behind the other in the source into as many rows of the target, which begin at the cell `start`, each to the same column.
+fn copy_across(
+    rows: usize,
+    width: usize,
+    start: usize,
+    row: usize,
+    source: &[u32],
+    from: usize,
+    target: &mut [u32],
+)
+    requires { ⌜ AcrossReady rows width start row from (now source) (now target) ⌝ }
+    ensures { λ _. ⌜ Across rows width start row from width (now (source .entry)) (now (target .entry)) (now (target .exit)) ⌝ }
+{
+    let mut copied: usize = 0;
+    let mut to = start + row;
+    while copied < width {
+        copy_cell(source, from + copied, target, to);
+        to += rows;
+        copied += 1;
+    }
+}
+
+// Turns columns of the source's rows, `width` of them from one on, into rows of the target from the cell `start` on.
+fn turn_block(
     rows: usize,
     columns: usize,
     column: usize,
+    width: usize,
     start: usize,
     source: &[u32],
     target: &mut [u32],
 )
-    requires { ⌜ ColumnReady rows columns column start (now source) (now target) ⌝ }
-    ensures { λ _. ⌜ ColumnTurned columns column start rows (now (source .entry)) (now (target .entry)) (now (target .exit)) ⌝ }
+    requires { ⌜ BlockReady rows columns column width start (now source) (now target) ⌝ }
+    ensures { λ _. ⌜ BlockTurned rows columns column width start rows (now (source .entry)) (now (target .entry)) (now (target .exit)) ⌝ }
 {
     let mut row: usize = 0;
     let mut from = column;
     while row < rows {
-        copy_cell(source, from, target, start + row);
+        copy_across(rows, width, start, row, source, from, target);
         from += columns;
         row += 1;
     }
 }
 
-// Turns rows of cells into columns, along the target.
+// Turns columns into rows of the target, block by block from one on, as long as there is a whole block left: the first column that is not turned.
+fn turn_blocks(
+    rows: usize,
+    columns: usize,
+    first: usize,
+    width: usize,
+    source: &[u32],
+    target: &mut [u32],
+) -> usize
+    requires { ⌜ BlocksReady rows columns first width (now source) (now target) ⌝ }
+    ensures { λ r. ⌜ BlocksTurned rows columns first width (now (source .entry)) (now (target .entry)) (now (target .exit)) r ⌝ }
+{
+    let mut column = first;
+    let mut start = first * rows;
+    while column + width <= columns {
+        turn_block(rows, columns, column, width, start, source, target);
+        start += width * rows;
+        column += width;
+    }
+    column
+}
+
+// Turns rows of cells into columns. A block is four columns, of which each row has the cells side by side, so that what is fetched of the source serves
+// four of the target's rows; then the columns that are left, one by one.
 fn turn(rows: usize, columns: usize, source: &[u32], target: &mut [u32])
     requires { ⌜ TurnReady rows columns (now source) (now target) ⌝ }
-    ensures { λ _. ⌜ Turned rows columns columns (now (source .entry)) (now (target .entry)) (now (target .exit)) ⌝ }
+    ensures { λ _. ⌜ Turned rows columns 0 columns (now (source .entry)) (now (target .entry)) (now (target .exit)) ⌝ }
 {
-    let mut column: usize = 0;
-    let mut start: usize = 0;
-    while column < columns {
-        turn_column(rows, columns, column, start, source, target);
-        start += rows;
-        column += 1;
-    }
+    let left = turn_blocks(rows, columns, 0, 4, source, target);
+    turn_blocks(rows, columns, left, 1, source, target);
 }
 
 // Refusal 20: one of two tables has fewer than two numbers for each cell.

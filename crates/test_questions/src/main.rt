@@ -18,11 +18,14 @@
 //     task 7, opening     as task 0, but for the opening that already loops, at the start variable and place 0
 //     task 8, further     a further question about the kept entry; x numbers of the kept table and a work slice of y numbers are lent
 //     task 9, blank       as task 4, but nothing is asked: the kept table is blank
+//     task 10, store      x numbers of the kept table are stored by place in y numbers of the stored table; the variable is V, the place n
+//     task 11, restore    x numbers of the stored table are taken back into y numbers of the kept table, with the same V and n
 //
 // A cell is two numbers of a table and one of a work slice: with tasks 2 and 5 the work slice has half as many numbers as the table, rounded
 // up. What is kept lasts until the next task 4 or 9, so that corrections and further questions follow one another. They take as many bytes of
 // the kept entry as the request's entry has; where x of a correction is not below that number, no byte is changed and the call is made all the
-// same.
+// same. The stored table lasts until the next task 10. Behind a task 11 that is not refused the kept table holds what was stored; behind one
+// that is refused, what it was filled with.
 //
 // An answer is a line of seven fields of 8 columns and byte 10. The first is the number of the request's line, the second is
 //
@@ -37,12 +40,15 @@
 //     8, opening     code, refusal number, least opening or refused line, sum of the lent work slice if refused, sum of the lent table
 //     9, further     as for a correction
 //     10, blank      five zeros
+//     11, store      code, refusal number, refused line, 0, sum of the lent stored table
+//     12, restore    code, refusal number, refused line, 0, sum of the lent kept table
 //
-// The codes: 0 success, 1 failure, 2 loop, 3 missing, 4 end, 6 spent, 7 no frame, 8 no opening, 9 refused. Table and output are filled
-// before each call but a correction and a further question, so that their sums also show what a call must leave unchanged. A table's sum is
-// over outcomes and reaches alike.
+// The codes: 0 success or done, 1 failure, 2 loop, 3 missing, 4 end, 6 spent, 7 no frame, 8 no opening, 9 refused. Table and output are filled
+// before each call but a correction and a further question, so that their sums also show what a call must leave unchanged; of two tables the
+// one that is written to is filled. A table's sum is over outcomes and reaches alike.
 ghost use Prim.Native.Nat.{_<_, _≤_};
 ghost use Rattle.io.specs.Counts.{Counts};
+use archive::Stored;
 use backtrack::Ending;
 use checker::Claim;
 use columns::Cursor;
@@ -178,6 +184,13 @@ fn numbers_of_prefix(prefix: Prefix, sum: u32) -> Four {
         Prefix::Least(m) => Four(2, 0, m, 0),
         Prefix::None => Four(8, 0, 0, 0),
         Prefix::Refused(number, line) => Four(9, number, line, sum),
+    }
+}
+
+fn numbers_of_stored(stored: Stored) -> Four {
+    match stored {
+        Stored::Done => Four(0, 0, 0, 0),
+        Stored::Refused(number, line) => Four(9, number, line, 0),
     }
 }
 
@@ -482,6 +495,42 @@ fn run_put(number: u32, r: Request, kept_table: &mut [u32]) {
     print_answer(number, 7, Four(0, 0, 0, before), 0);
 }
 
+// Task 10, with the lent tables.
+fn store(number: u32, r: Request, table: &[u32], stored_table: &mut [u32]) {
+    fill_numbers(stored_table, UNTOUCHED_NUMBER);
+    let stored = archive::store(r.variable, r.position, table, stored_table);
+    print_answer(
+        number,
+        11,
+        numbers_of_stored(stored),
+        sum_of_numbers(stored_table),
+    );
+}
+
+// Task 11, with the lent tables.
+fn restore(number: u32, r: Request, stored_table: &[u32], table: &mut [u32]) {
+    fill_numbers(table, UNTOUCHED_NUMBER);
+    let stored = archive::restore(r.variable, r.position, stored_table, table);
+    print_answer(number, 12, numbers_of_stored(stored), sum_of_numbers(table));
+}
+
+// Tasks 10 and 11, from one table to the other.
+fn run_archive(number: u32, r: Request, source: &[u32], target: &mut [u32]) {
+    let x = r.x as usize;
+    let y = r.y as usize;
+    if source.len() < x {
+        return print_fault(number);
+    }
+    if target.len() < y {
+        return print_fault(number);
+    }
+    let task = r.task;
+    match task {
+        10 => store(number, r, &source[0..x], &mut target[0..y]),
+        _ => restore(number, r, &source[0..x], &mut target[0..y]),
+    }
+}
+
 // Tasks 2 and 3, with an output.
 fn run_written(
     number: u32,
@@ -510,8 +559,8 @@ fn run_fresh(number: u32, sheet: &[u8], entry: &[u8], r: Request, work: &mut [u3
     }
 }
 
-// Runs a request on its sheet and its entry, over slices of its own and what is kept. The work slice has twice the numbers that the cells of a
-// table need, for the machine's frames.
+// Runs a request on its sheet and its entry, over slices of its own and what is kept or stored. The work slice has twice the numbers that the
+// cells of a table need, for the machine's frames.
 fn run(
     number: u32,
     sheet: &[u8],
@@ -519,6 +568,7 @@ fn run(
     r: Request,
     kept_entry: &mut [u8],
     kept_table: &mut [u32],
+    stored_table: &mut [u32],
 ) {
     let mut work = [UNTOUCHED_NUMBER; 65536];
     let task = r.task;
@@ -535,6 +585,8 @@ fn run(
             &mut work,
         ),
         6 => run_put(number, r, kept_table),
+        10 => run_archive(number, r, kept_table, stored_table),
+        11 => run_archive(number, r, stored_table, kept_table),
         _ => run_fresh(number, sheet, entry, r, &mut work),
     }
 }
@@ -568,6 +620,7 @@ fn run_on_sheet(
     numbers: &[u32; 9],
     kept_entry: &mut [u8],
     kept_table: &mut [u32],
+    stored_table: &mut [u32],
 ) {
     let start = size(numbers[2]);
     let length = size(numbers[3]);
@@ -592,6 +645,7 @@ fn run_on_sheet(
         r,
         kept_entry,
         kept_table,
+        stored_table,
     );
 }
 
@@ -603,6 +657,7 @@ fn run_numbers(
     numbers: &[u32; 9],
     kept_entry: &mut [u8],
     kept_table: &mut [u32],
+    stored_table: &mut [u32],
 ) {
     let start = size(numbers[0]);
     let length = size(numbers[1]);
@@ -620,6 +675,7 @@ fn run_numbers(
         numbers,
         kept_entry,
         kept_table,
+        stored_table,
     );
 }
 
@@ -631,12 +687,21 @@ fn run_line(
     entries: &[u8],
     kept_entry: &mut [u8],
     kept_table: &mut [u32],
+    stored_table: &mut [u32],
 ) {
     let mut numbers = [0u32; 9];
     if !read_numbers(line, &mut numbers) {
         return print_fault(number);
     }
-    run_numbers(number, sheets, entries, &numbers, kept_entry, kept_table);
+    run_numbers(
+        number,
+        sheets,
+        entries,
+        &numbers,
+        kept_entry,
+        kept_table,
+        stored_table,
+    );
 }
 
 // The end of the line that starts at a position: 73 bytes further, or the text's end.
@@ -651,7 +716,7 @@ fn line_end(start: usize, length: usize) -> usize
 }
 
 // Runs the request of each line. A kept entry may be one byte too long for the calls.
-fn run_lines(questions: &[u8], sheets: &[u8], entries: &[u8]) {
+fn run_lines(questions: &[u8], sheets: &[u8], entries: &[u8], stored_table: &mut [u32]) {
     let mut kept_entry = [0u8; 4097];
     let mut kept_table = [0u32; 65536];
     let mut number: u32 = 0;
@@ -666,6 +731,7 @@ fn run_lines(questions: &[u8], sheets: &[u8], entries: &[u8]) {
             entries,
             &mut kept_entry,
             &mut kept_table,
+            stored_table,
         );
         at = end;
     }
@@ -673,7 +739,8 @@ fn run_lines(questions: &[u8], sheets: &[u8], entries: &[u8]) {
 
 // Runs all requests, and prints how many bytes were read of each file.
 fn run_all(questions: &[u8], sheets: &[u8], entries: &[u8]) {
-    run_lines(questions, sheets, entries);
+    let mut stored_table = [0u32; 65536];
+    run_lines(questions, sheets, entries, &mut stored_table);
     let read = Four(
         low_digits(sheets.len()),
         low_digits(entries.len()),

@@ -6,11 +6,13 @@ use Rattle.test_questions.proofs.run_lines.Statement.{statement}
 use Rattle.test_questions.proofs.run_lines.Tie as tie
 
 abbrev Inv-loop : tie.InvT-loop
-Inv-loop questions sheets entries kept-entry₀ kept-table₀ number₀ at₀ kept-entry kept-table number at =
-    (at ≤ length questions) × ((length kept-entry ≡ 4097) × (length kept-table ≡ 65536))
+Inv-loop questions sheets entries stored-table₀ kept-entry₀ kept-table₀ number₀ at₀ stored-table kept-entry kept-table number at =
+    (at ≤ length questions) ×
+    ((length stored-table ≡ length stored-table₀) × ((length kept-entry ≡ 4097) × (length kept-table ≡ 65536)))
 
 abbrev μ-loop : tie.MeasureT-loop
-μ-loop questions sheets entries kept-entry₀ kept-table₀ number₀ at₀ kept-entry kept-table number at = length questions - at
+μ-loop questions sheets entries stored-table₀ kept-entry₀ kept-table₀ number₀ at₀ stored-table kept-entry kept-table number at =
+    length questions - at
 
 loop-holds : tie.Need-loop-holds Inv-loop μ-loop
 loop-holds c = search needs
@@ -45,6 +47,9 @@ loop-less c = search needs
 loop-again : tie.Need-loop-again Inv-loop μ-loop
 loop-again c = search needs
 
+same-length : tie.Need-same-length Inv-loop μ-loop
+same-length c = search needs
+
 returns : tie.Need-returns Inv-loop μ-loop
 returns c = search needs
 
@@ -65,4 +70,5 @@ run-lines-spec =
     run-line-requires
     loop-less
     loop-again
+    same-length
     returns)
