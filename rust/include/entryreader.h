@@ -2,7 +2,7 @@
  * The exported calls of the entry reader, for programs in C and C++: link libentryreader.a, which serves x86-64 Linux.
  *
  * A slice is handed over as its pointer and its length, counted in numbers of its type. No pointer may be null, not even one with length 0. What a call
- * writes (table, work, out, answer, words) must not overlap with anything else that is handed over.
+ * writes (table, stored, work, out, answer, words) must not overlap with anything else that is handed over.
  *
  * Every call takes any bytes and any numbers, and ends. Where it is refused, it returns 100 plus the number of the refusal, and everything lent is as
  * it was; entryreader_sheet and entryreader_judge say in their answer what was refused. V is the sheet's count of variables, 1 to 256, and n the length
@@ -103,6 +103,25 @@ uint32_t entryreader_further(
     uint32_t (*answer)[4]);
 
 /*
+ * Stores the cells of a table by place, for an archive: the cell of variable A at p, both its numbers, becomes cell p times V plus A - 1 of stored. V is
+ * variables and n is length; each of the two has twice V times (n + 1) numbers or more. What the cells hold is not looked at, and later numbers of stored
+ * are unchanged. Returns 0; or a refusal (3 where V is not 1 to 256, 6 where n is over 4,096, 20 where one of the two has fewer numbers).
+ */
+uint32_t entryreader_store(
+    uint32_t variables, uint32_t length,
+    const uint32_t *table, size_t table_length,
+    uint32_t *stored, size_t stored_length);
+
+/*
+ * Restores the cells of a table that was stored: the way back, to any table that is long enough. Returns as entryreader_store does. Where a kept table was
+ * stored, the restored one is kept too.
+ */
+uint32_t entryreader_restore(
+    uint32_t variables, uint32_t length,
+    const uint32_t *stored, size_t stored_length,
+    uint32_t *table, size_t table_length);
+
+/*
  * The question, with its reading at the front of out, which has 49 times V times (n + 1) bytes or more. Returns 0, with the question's four numbers and
  * the count of lines, 49 bytes each, in the answer; or a refusal (1 to 6, 8 to 11). Loop, missing and end have no lines.
  */
@@ -134,23 +153,6 @@ uint32_t entryreader_shorthand(
     const uint8_t *text, size_t text_length,
     uint8_t *out, size_t out_length,
     uint32_t (*answer)[1]);
-
-/*
- * Stores the cells of a table of so many variables and bytes place by place: both numbers of the cell of variable A at p become cell p times V plus
- * A - 1. Returns 0; or a refusal (3, 6, 20). Each table has twice V times (n + 1) numbers or more, and later ones are unchanged.
- */
-uint32_t entryreader_store(
-    uint32_t variables, uint32_t length,
-    const uint32_t *table, size_t table_length,
-    uint32_t *stored, size_t stored_length);
-
-/*
- * Takes the cells of a stored table back. Returns as entryreader_store does.
- */
-uint32_t entryreader_restore(
-    uint32_t variables, uint32_t length,
-    const uint32_t *stored, size_t stored_length,
-    uint32_t *table, size_t table_length);
 
 #ifdef __cplusplus
 }

@@ -83,6 +83,24 @@ unsafe extern "C" {
         answer: *mut [u32; 4],
     ) -> u32;
 
+    fn entryreader_store(
+        variables: u32,
+        length: u32,
+        table: *const u32,
+        table_length: usize,
+        stored: *mut u32,
+        stored_length: usize,
+    ) -> u32;
+
+    fn entryreader_restore(
+        variables: u32,
+        length: u32,
+        stored: *const u32,
+        stored_length: usize,
+        table: *mut u32,
+        table_length: usize,
+    ) -> u32;
+
     fn entryreader_write(
         sheet: *const u8,
         sheet_length: usize,
@@ -117,24 +135,6 @@ unsafe extern "C" {
         out: *mut u8,
         out_length: usize,
         answer: *mut [u32; 1],
-    ) -> u32;
-
-    fn entryreader_store(
-        variables: u32,
-        length: u32,
-        table: *const u32,
-        table_length: usize,
-        stored: *mut u32,
-        stored_length: usize,
-    ) -> u32;
-
-    fn entryreader_restore(
-        variables: u32,
-        length: u32,
-        stored: *const u32,
-        stored_length: usize,
-        table: *mut u32,
-        table_length: usize,
     ) -> u32;
 }
 
@@ -285,6 +285,36 @@ pub fn further(
     }
 }
 
+/// 0, or 100 plus the number of a refusal.
+pub fn store(variables: u32, length: u32, table: &[u32], stored: &mut [u32]) -> u32 {
+    // SAFETY: the call has no precondition; it reads the first slice, and writes inside the second, which is lent exclusively.
+    unsafe {
+        entryreader_store(
+            variables,
+            length,
+            table.as_ptr(),
+            table.len(),
+            stored.as_mut_ptr(),
+            stored.len(),
+        )
+    }
+}
+
+/// 0, or 100 plus the number of a refusal.
+pub fn restore(variables: u32, length: u32, stored: &[u32], table: &mut [u32]) -> u32 {
+    // SAFETY: the call has no precondition; it reads the first slice, and writes inside the second, which is lent exclusively.
+    unsafe {
+        entryreader_restore(
+            variables,
+            length,
+            stored.as_ptr(),
+            stored.len(),
+            table.as_mut_ptr(),
+            table.len(),
+        )
+    }
+}
+
 /// 0 with the question's four numbers and the count of lines in `answer`, or 100 plus the number of a refusal.
 #[allow(clippy::too_many_arguments)] // Those of the exported call.
 pub fn write(
@@ -352,36 +382,6 @@ pub fn shorthand(text: &[u8], out: &mut [u8], answer: &mut [u32; 1]) -> u32 {
             out.as_mut_ptr(),
             out.len(),
             answer,
-        )
-    }
-}
-
-/// 0, or 100 plus the number of a refusal.
-pub fn store(variables: u32, length: u32, table: &[u32], stored: &mut [u32]) -> u32 {
-    // SAFETY: the call has no precondition; it reads the first slice, and writes inside the second, which is lent exclusively.
-    unsafe {
-        entryreader_store(
-            variables,
-            length,
-            table.as_ptr(),
-            table.len(),
-            stored.as_mut_ptr(),
-            stored.len(),
-        )
-    }
-}
-
-/// 0, or 100 plus the number of a refusal.
-pub fn restore(variables: u32, length: u32, stored: &[u32], table: &mut [u32]) -> u32 {
-    // SAFETY: the call has no precondition; it reads the first slice, and writes inside the second, which is lent exclusively.
-    unsafe {
-        entryreader_restore(
-            variables,
-            length,
-            stored.as_ptr(),
-            stored.len(),
-            table.as_mut_ptr(),
-            table.len(),
         )
     }
 }

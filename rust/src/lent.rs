@@ -4,7 +4,7 @@
 //! After a refusal everything lent is as it was.
 //!
 //! A table is kept, of a sheet and an entry, where it is blank, where [`question`] left it, or where [`further`] or [`correct`] left it over a kept one;
-//! [`judge`], [`opening`] and [`write()`] leave the table of the question that they ask.
+//! [`judge`], [`opening`] and [`write()`] leave the table of the question that they ask. [`store`] and [`restore`] take a table to an archive and back.
 //!
 //! ```
 //! use entryreader::{Answer, lent};
@@ -257,6 +257,72 @@ pub fn further(
     Answer::from_numbers(code, numbers)
 }
 
+/// Stores the cells of a table of so many variables and bytes by place, for an archive: the cell of variable A at p, both its numbers, becomes cell p
+/// times V plus A - 1. [`restore`] is the way back.
+///
+/// Each of the two tables has twice V times (n + 1) numbers or more. What the cells hold is not looked at, and later numbers of `stored` are unchanged.
+///
+/// ```
+/// use entryreader::lent::{judge, store};
+///
+/// // A digit and a full stop.
+/// let sheet = b"    3    1   46    0    0
+///     1    4    2    3    2
+///     2    3    1    0    0
+///     3    2   46    0    0
+/// ";
+/// let (mut table, mut work, mut stored) = ([0; 18], [0; 9], [0; 18]);
+/// judge(sheet, b"6.", &mut table, &mut work)?;
+/// assert_eq!(table, [7, 2, 0, 0, 0, 0, 6, 1, 0, 0, 0, 0, 0, 0, 7, 2, 0, 0]);
+/// store(3, 2, &table, &mut stored)?;
+/// // Variables 1 and 2 at 0, and 3 at 1.
+/// assert_eq!(stored, [7, 2, 6, 1, 0, 0, 0, 0, 0, 0, 7, 2, 0, 0, 0, 0, 0, 0]);
+/// assert_eq!(store(3, 2, &table, &mut stored[..17]).unwrap_err().number(), 20);
+/// # Ok::<(), entryreader::Error>(())
+/// ```
+pub fn store(variables: u32, length: u32, table: &[u32], stored: &mut [u32]) -> Result<(), Error> {
+    done(calls::store(variables, length, table, stored))
+}
+
+/// Restores the cells of a table that was stored with [`store`], to any table that is long enough. Where the table was a kept one, the restored one is
+/// kept too.
+///
+/// ```
+/// use entryreader::{Answer, lent::{further, judge, restore, store}};
+///
+/// // A digit and a full stop.
+/// let sheet = b"    3    1   46    0    0
+///     1    4    2    3    2
+///     2    3    1    0    0
+///     3    2   46    0    0
+/// ";
+/// let (mut table, mut work, mut stored) = ([0; 18], [0; 9], [0; 18]);
+/// judge(sheet, b"6.", &mut table, &mut work)?;
+/// store(3, 2, &table, &mut stored)?;
+/// let mut restored = [9; 18];
+/// restore(3, 2, &stored, &mut restored)?;
+/// assert_eq!(restored, table);
+/// // Nothing is read again.
+/// assert_eq!(further(sheet, b"6.", 1, 0, &mut restored, &mut work)?, Answer::Success { end: 2, cells: 0 });
+/// # Ok::<(), entryreader::Error>(())
+/// ```
+pub fn restore(
+    variables: u32,
+    length: u32,
+    stored: &[u32],
+    table: &mut [u32],
+) -> Result<(), Error> {
+    done(calls::restore(variables, length, stored, table))
+}
+
+/// What a call without an answer returns.
+fn done(code: u32) -> Result<(), Error> {
+    match code {
+        0 => Ok(()),
+        code => Err(Error::from_code(code)),
+    }
+}
+
 /// The question, with its reading written at the front of `out`, which has 49 times V times (n + 1) bytes or more: the answer, and the count of lines.
 /// What stands behind them is unchanged.
 ///
@@ -335,47 +401,6 @@ pub fn shorthand(text: &[u8], out: &mut [u8]) -> Result<usize, Error> {
     let mut answer = [0];
     match calls::shorthand(text, out, &mut answer) {
         0 => Ok(calls::length(answer[0])),
-        code => Err(Error::from_code(code)),
-    }
-}
-
-/// Stores the cells of a table of so many variables and bytes place by place: both numbers of the cell of variable A at p become cell p times V plus
-/// A - 1. Each table has twice V times (n + 1) numbers or more; later ones are unchanged. What the cells hold is not looked at.
-///
-/// ```
-/// use entryreader::lent::{restore, store};
-///
-/// let (table, mut stored) = ([1, 10, 2, 20, 3, 30, 4, 40], [7; 9]);
-/// store(2, 1, &table, &mut stored)?;
-/// assert_eq!(stored, [1, 10, 3, 30, 2, 20, 4, 40, 7]);
-/// let mut again = [0; 8];
-/// restore(2, 1, &stored, &mut again)?;
-/// assert_eq!(again, table);
-/// assert_eq!(store(2, 1, &table, &mut [0; 7]).unwrap_err().number(), 20);
-/// # Ok::<(), entryreader::Error>(())
-/// ```
-pub fn store(variables: u32, length: u32, table: &[u32], stored: &mut [u32]) -> Result<(), Error> {
-    match calls::store(variables, length, table, stored) {
-        0 => Ok(()),
-        code => Err(Error::from_code(code)),
-    }
-}
-
-/// Takes the cells of a table that was stored back: [`store`] the other way.
-///
-/// ```
-/// use entryreader::lent::restore;
-///
-/// assert_eq!(restore(257, 0, &[], &mut []).unwrap_err().number(), 3);
-/// ```
-pub fn restore(
-    variables: u32,
-    length: u32,
-    stored: &[u32],
-    table: &mut [u32],
-) -> Result<(), Error> {
-    match calls::restore(variables, length, stored, table) {
-        0 => Ok(()),
         code => Err(Error::from_code(code)),
     }
 }

@@ -15,13 +15,13 @@ pub enum Refusal {
     NotLines = 1,
     /// 2: a field of the sheet is no right-justified number.
     Field,
-    /// 3: line 1 of the sheet is out of range, or its last two fields are not 0.
+    /// 3: line 1 of the sheet is out of range, or its last two fields are not 0; of a table that is stored or restored: V is not 1 to 256.
     Header,
     /// 4: the variable of a sheet line is not in 1 to V, or not above that of the line before.
     RuleVariable,
     /// 5: the kind of a sheet line is over 4, or its operands do not fit.
     Rule,
-    /// 6: the entry has over 4,096 bytes.
+    /// 6: the entry has over 4,096 bytes; of a table that is stored or restored: n is over 4,096.
     LongEntry,
     /// 7, of a verdict and its opening only: the endmarker is not the entry's last byte, or stands earlier too.
     Endmarker,
@@ -52,7 +52,7 @@ pub enum Refusal {
     /// success or a failure whose reach is below its place; for a correction a cell that it retains, for a further question any of the first V times
     /// (n + 1).
     Cell,
-    /// 20, of the archive: one of the two tables has fewer than twice V times (n + 1) numbers.
+    /// 20, of a table that is stored or restored: it or the one that it goes to has fewer than twice V times (n + 1) numbers.
     Tables,
 }
 

@@ -4,7 +4,7 @@
 mod marked_cases;
 
 use entryreader::{Answer, Claim, Error, Pair, Verdict, lent};
-use marked_cases::{BEHIND, CELLS, G, H, READING};
+use marked_cases::{BEHIND, CELLS, G, H, READING, STORED};
 use std::collections::BTreeMap;
 use std::fmt::Write as _;
 use std::io::Write as _;
@@ -64,7 +64,8 @@ fn looping(sheet: &'static str, entry: &'static str, question: [u32; 4], least: 
     }
 }
 
-/// The marked entries, of which no verdict loops; then a refused sheet and a refused entry; then case g with an endmarker, and a loop behind `66-`.
+/// The marked entries, of which no verdict loops; then a refused sheet, a refused entry and one that the tables are too short for; then case g with an
+/// endmarker, and a loop behind `66-`.
 fn cases() -> Vec<Case> {
     let mut cases: Vec<Case> = marked_cases::cases()
         .map(|case| {
@@ -81,10 +82,18 @@ fn cases() -> Vec<Case> {
     let h = H.as_bytes();
     cases.push(refused((&h[..h.len() - 1], b"-6."), 101));
     cases.push(refused((h, &[b'6'; 4097]), 106));
+    cases.push(refused((h, &LONG), 110));
     cases.push(looping(G, ".", [2, 1, 0, 1], 0));
     cases.push(looping(BEHIND, "66-.", [2, 5, 3, 9], 3));
     cases
 }
+
+/// As many digits as there may be, and a full stop.
+const LONG: [u8; 4096] = {
+    let mut entry = [b'6'; 4096];
+    entry[4095] = b'.';
+    entry
+};
 
 /// A sign, or none; then a digit and a full stop.
 const TEXT: Handed = (b"S='-'D/D\nD=('0'/'6')'.'\n", b"-6.");
@@ -137,6 +146,7 @@ fn printed_by_c(handed: &[Handed]) -> String {
 /// The text that the C program prints of the same calls, made through this package.
 struct Printed {
     text: String,
+    variables: u32,
     table: Vec<u32>,
     work: Vec<u32>,
 }
@@ -190,6 +200,7 @@ impl Printed {
     fn new() -> Printed {
         Printed {
             text: String::new(),
+            variables: 0,
             table: Vec::new(),
             work: Vec::new(),
         }
@@ -216,7 +227,9 @@ impl Printed {
 
     fn sheet(&mut self, sheet: &[u8]) {
         let mut words = [7; 256];
-        let (code, numbers) = match lent::sheet(sheet, &mut words) {
+        let found = lent::sheet(sheet, &mut words);
+        self.variables = found.map_or(0, |header| header.variables);
+        let (code, numbers) = match found {
             Ok(header) => {
                 let endmarker = header.endmarker.into();
                 (0, [0, header.variables, header.start, endmarker])
@@ -290,6 +303,21 @@ impl Printed {
         report(&mut self.text, "check", code, &numbers);
     }
 
+    /// The table, stored and restored.
+    fn archive(&mut self, entry: &[u8]) {
+        let length = u32::try_from(entry.len()).expect("it is short");
+        let (mut stored, mut restored) = (vec![7; 2 * 1024], vec![7; 2 * 1024]);
+        let found = lent::store(self.variables, length, &self.table, &mut stored);
+        self.moved("store", found, &stored);
+        let found = lent::restore(self.variables, length, &stored, &mut restored);
+        self.moved("restore", found, &restored);
+    }
+
+    fn moved(&mut self, name: &str, found: Result<(), Error>, target: &[u32]) {
+        let code = found.map_or_else(|error| 100 + error.number(), |()| 0);
+        report(&mut self.text, name, code, &target[..64]);
+    }
+
     fn case(&mut self, (sheet, entry): Handed) {
         let sheet = self.shorthand(sheet);
         self.sheet(&sheet);
@@ -297,6 +325,7 @@ impl Printed {
         self.opening(&sheet, entry);
         self.questions(&sheet, entry);
         self.reading(&sheet, entry);
+        self.archive(entry);
     }
 }
 
@@ -322,6 +351,13 @@ fn marked_entries_in_c() {
     assert!(text.contains(&written), "{text}");
     assert!(text.contains(&cells_of_a()), "{text}");
     assert!(text.contains(&cells_behind()), "{text}");
+    assert!(text.contains(&archive_of_a()), "{text}");
+    for code in [103, 106, 120] {
+        let mut refused = String::new();
+        report(&mut refused, "store", code, &[7; 64]);
+        report(&mut refused, "restore", code, &[7; 64]);
+        assert!(text.contains(&refused), "{text}");
+    }
 }
 
 /// Case a asked, and corrected at 0 to what it is: two cells are decided anew, and the table is the same. Further behind its last byte, where a sign is
@@ -338,6 +374,15 @@ fn cells_of_a() -> String {
         let table = [&cells.concat()[..], &[7; 16]].concat();
         report(&mut text, name, 0, &numbers);
         print(&mut text, "table", &table);
+    }
+    text
+}
+
+/// Case a's table stored and restored.
+fn archive_of_a() -> String {
+    let mut text = String::new();
+    for (name, cells) in [("store", STORED.concat()), ("restore", CELLS.concat())] {
+        report(&mut text, name, 0, &[&cells[..], &[7; 16]].concat());
     }
     text
 }

@@ -2,6 +2,7 @@
 //! fault of a reading; and random questions, corrections and further questions beside the calls over lent slices and the recognizer.
 #[allow(dead_code)] // Other tests hand over tables that no call left.
 mod kept;
+#[allow(dead_code)] // Other tests store the cells of case a.
 mod marked_cases;
 mod met;
 #[allow(dead_code, unused_imports)] // Other tests lend slices around the limits.

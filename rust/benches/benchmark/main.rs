@@ -1,8 +1,9 @@
 //! Benchmarks of the proved calls beside Rust twins, LPeg and leg: `cargo bench --manifest-path rust/Cargo.toml --features test-calls`.
 //!
 //! It prints the tables of docs/BENCHMARKS.md. valgrind, lua5.4, lua-lpeg and peg are Debian's packages; where valgrind is absent, its columns stay
-//! empty. With `--calls SUBJECT COUNT` it only makes the calls of one subject, which is what valgrind counts; with `--corrections`, `--openings` or
-//! `--further` it prints the table of corrections, of openings or of further questions only.
+//! empty. With `--calls SUBJECT COUNT` it only makes the calls of one subject, which is what valgrind counts; with `--corrections`, `--openings`,
+//! `--further` or `--archive` it prints the table of corrections, of openings, of further questions or of stored tables only.
+mod archive;
 mod correction;
 mod fastest;
 mod further;
@@ -548,6 +549,14 @@ fn only_calls(subject: &str, calls: usize) {
     (asking(name, call, question).1)(calls);
 }
 
+/// The tables that can be asked for by themselves.
+const ALONE: [(&str, fn()); 4] = [
+    ("--corrections", correction::table),
+    ("--openings", opening::table),
+    ("--further", further::table),
+    ("--archive", archive::table),
+];
+
 fn main() {
     let arguments: Vec<String> = std::env::args().collect();
     if let Some(at) = arguments.iter().position(|word| word == "--calls") {
@@ -556,23 +565,16 @@ fn main() {
             arguments[at + 2].parse().expect("a number"),
         );
     }
-    if arguments.iter().any(|word| word == "--corrections") {
-        return correction::table();
-    }
-    if arguments.iter().any(|word| word == "--openings") {
-        return opening::table();
-    }
-    if arguments.iter().any(|word| word == "--further") {
-        return further::table();
+    let asked = |(flag, _): &(&str, fn())| arguments.iter().any(|word| word == flag);
+    if let Some((_, table)) = ALONE.into_iter().find(asked) {
+        return table();
     }
     question_table();
     society_table();
     parts_table();
     entry_table();
     growth_table();
-    correction::table();
-    opening::table();
-    further::table();
+    ALONE.into_iter().for_each(|(_, table)| table());
     println!("\n## Machine, writer and checker, millions a second\n");
     println!("| | proved | twin | time, of the twin's |");
     println!("|---|---|---|---|");

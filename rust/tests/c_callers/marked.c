@@ -2,7 +2,8 @@
  * Puts cases through every exported call, and prints what each returns and the numbers that it leaves.
  *
  * A case on standard input is a rule sheet, or a text of the shorthand, and then an entry, each as its length, a line feed and its bytes. Every question is
- * about variable 1 at 0, but for the further one, which is about variable 1 behind the last byte. What is lent is filled with 7 before.
+ * about variable 1 at 0, but for the further one, which is about variable 1 behind the last byte. What is lent is filled with 7 before. The table that
+ * the reading's question leaves is stored, and restored elsewhere.
  */
 #include "entryreader.h"
 #include <stdio.h>
@@ -12,7 +13,7 @@ enum { BYTES = 8192, CELLS = 1024, NUMBERS = 2 * CELLS, SHOWN = 64, LINE = 49 };
 
 static uint8_t sheet[BYTES], entry[BYTES], output[LINE * CELLS];
 static size_t sheet_length, entry_length;
-static uint32_t table[NUMBERS], work[CELLS], words[256];
+static uint32_t table[NUMBERS], stored[NUMBERS], restored[NUMBERS], work[CELLS], words[256], variables;
 
 static int take(uint8_t *bytes, size_t *length)
 {
@@ -65,8 +66,10 @@ static void read_sheet(void)
 {
     uint32_t answer[4] = {7, 7, 7, 7};
     fill(words, 256);
-    report("sheet", entryreader_sheet(sheet, sheet_length, &answer, &words), answer, 4);
+    uint32_t returned = entryreader_sheet(sheet, sheet_length, &answer, &words);
+    report("sheet", returned, answer, 4);
     print("words", words, 256);
+    variables = returned == 0 ? answer[1] : 0;
 }
 
 static void verdicts(void)
@@ -127,6 +130,18 @@ static void reading(void)
     report("check", returned, claimed, 2);
 }
 
+/* A refused sheet has no variables. */
+static void archive(void)
+{
+    uint32_t length = (uint32_t)entry_length;
+    fill(stored, NUMBERS);
+    uint32_t returned = entryreader_store(variables, length, table, NUMBERS, stored, NUMBERS);
+    report("store", returned, stored, SHOWN);
+    fill(restored, NUMBERS);
+    returned = entryreader_restore(variables, length, stored, NUMBERS, restored, NUMBERS);
+    report("restore", returned, restored, SHOWN);
+}
+
 int main(void)
 {
     while (take(sheet, &sheet_length) && take(entry, &entry_length)) {
@@ -136,6 +151,7 @@ int main(void)
         opening();
         questions();
         reading();
+        archive();
     }
     return 0;
 }

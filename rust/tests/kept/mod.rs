@@ -14,6 +14,12 @@ pub fn is_result(outcome: u32) -> bool {
     outcome == 1 || SUCCESS <= outcome
 }
 
+/// The name of what a cell holds.
+pub fn held(outcome: u32) -> &'static str {
+    let names = ["blank", "failure", "loop", "missing", "end", "success"];
+    names[outcome.min(SUCCESS) as usize]
+}
+
 /// What brings a cell under 19.
 #[derive(Clone, Copy, Debug, PartialEq, Eq, PartialOrd, Ord)]
 pub enum Fault {
@@ -56,6 +62,14 @@ pub enum Call {
 }
 
 impl Call {
+    pub fn name(self) -> &'static str {
+        match self {
+            Call::Question => "question",
+            Call::Further => "further",
+            Call::Correction { .. } => "correction",
+        }
+    }
+
     /// A correction "blanks cells at places up to c, retains the others"; "success and failure cells .. with reach at most c stay also". "A further
     /// question blanks nothing."
     pub fn stays(self, place: u32, [outcome, reach]: Cell) -> bool {

@@ -63,6 +63,14 @@ pub const CELLS: [[u32; 8]; 6] = [
     [0, 0, 0, 0, 0, 0, 0, 0],
 ];
 
+/// The same stored by place, a row for each position: outcome and reach of variables 1 to 6.
+pub const STORED: [[u32; 12]; 4] = [
+    [8, 3, 6, 1, 0, 0, 0, 0, 0, 0, 0, 0],
+    [0, 0, 0, 0, 8, 3, 7, 2, 0, 0, 0, 0],
+    [0, 0, 0, 0, 0, 0, 0, 0, 8, 3, 0, 0],
+    [0, 0, 0, 0, 0, 0, 0, 0, 0, 0, 0, 0],
+];
+
 /// A marked entry: what the question about variable 1 at 0 is answered, and what the verdict is.
 pub struct Case {
     pub sheet: &'static str,

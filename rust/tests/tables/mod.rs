@@ -13,6 +13,14 @@ pub const START: Pair = Pair {
     position: 0,
 };
 
+/// What each call can be answered, with its name.
+#[rustfmt::skip]
+pub const ANSWERS: [&str; 15] = [
+    "question success", "question failure", "question loop", "question missing", "question end",
+    "further success", "further failure", "further loop", "further missing", "further end",
+    "correction success", "correction failure", "correction loop", "correction missing", "correction end",
+];
+
 /// The four numbers of an answer, or the number of a refusal.
 pub type Said = Result<[u32; 4], u32>;
 
@@ -102,6 +110,18 @@ impl Case {
     pub fn answered(&self, asked: Pair) -> Answered {
         recognizer::question(self.about(asked), 2 * self.cells(), self.cells())
             .unwrap_or_else(|number| panic!("{number}: {self}"))
+    }
+
+    /// A call of any kind; for a correction the entry is corrected.
+    pub fn any_call(&mut self, random: &mut Random) -> Call {
+        match random.below(7) {
+            0 => Call::Question,
+            1 | 2 if !self.entry.is_empty() => {
+                self.correct(random);
+                self.last_correction()
+            }
+            _ => Call::Further,
+        }
     }
 
     /// The correction of the byte that was corrected last.
