@@ -7,6 +7,9 @@ ghost use Rattle.archive.specs.Refusals.{tablesShort, movable};
 ghost use Rattle.archive.specs.Turn.{AcrossReady, Across, BlockReady, BlockTurned, BlocksReady, BlocksTurned, TurnReady, Turned, Sides, TurnPromise};
 use cells::Cell;
 
+// How many columns are turned at once.
+const BLOCK: usize = 4;
+
 // What storing and restoring answer: it is done; or the number and the line of a refusal.
 pub enum Stored {
     Done,
@@ -88,13 +91,13 @@ fn turn_blocks(
     column
 }
 
-// Turns rows of cells into columns. A block is four columns, of which each row has the cells side by side, so that what is fetched of the source serves
-// four of the target's rows; then the columns that are left, one by one.
+// Turns rows of cells into columns: first those of whole blocks, of which each row has the cells side by side, so that what is fetched of the source serves
+// several of the target's rows; then the columns that are left, one by one.
 fn turn(rows: usize, columns: usize, source: &[u32], target: &mut [u32])
     requires { ⌜ TurnReady rows columns (now source) (now target) ⌝ }
     ensures { λ _. ⌜ Turned rows columns 0 columns (now (source .entry)) (now (target .entry)) (now (target .exit)) ⌝ }
 {
-    let left = turn_blocks(rows, columns, 0, 4, source, target);
+    let left = turn_blocks(rows, columns, 0, BLOCK, source, target);
     turn_blocks(rows, columns, left, 1, source, target);
 }
 
