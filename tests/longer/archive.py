@@ -50,7 +50,7 @@ class Archived(Page):
 
     def __init__(self, maker, classes, q, chain, blank=False):
         super().__init__(maker, classes, q, blank)
-        self.shape, self.stored, self.away = (variables_of(q.sheet), len(q.entry)), [], {}
+        self.shape, self.stored, self.away, self.stored_old = (variables_of(q.sheet), len(q.entry)), [], {}, q.entry
         maker.tally[("archive chains", chain)] += 1
         self.turn = sum(x for (kind, _), x in maker.tally.items() if kind == "archive chains")
 
@@ -85,7 +85,7 @@ class Archived(Page):
         y = self.more(due(*shape), NUMBERS)
         table, stored = self.done("stored", self.maker.store, self.table, self.stored, shape, len(self.table), y)
         if stored != by_place(table, *shape): stop(f"not stored by place: {self.q}")
-        self.away = {shape: table}
+        self.away, self.stored_old = {shape: table}, self.old
         self.count(shape, table, stored)
 
     def count(self, shape, table, stored):
@@ -103,7 +103,7 @@ class Archived(Page):
         stored, table = self.done("restored", self.maker.restore, self.stored, self.table, shape, x, y)
         if by_place(table, *shape) != stored: stop(f"not what is stored: {self.q}")
         if self.away.get(shape, table) != table: stop(f"not the table that was stored: {self.q}")
-        self.before = "restored table"
+        self.old, self.before = self.stored_old, "restored table"
 
     def refused_move(self, back, number, shape, x, y):
         """One that must be refused with this number."""
@@ -117,6 +117,7 @@ class Archived(Page):
     def again(self):
         """The first entry is kept again, with a blank table."""
         self.q, self.table, self.before = self.first, self.maker.blank(self.first), "blank table"
+        self.old = self.q.entry
 
     def note_move(self, name, variables, size, *more):
         """What was moved; the last two are the numbers lent beyond what is due."""
@@ -166,12 +167,13 @@ def asked_between(rng, page):
 
 
 def corrected_between(rng, page):
-    """The restored table is of an entry that differs at c, so that the next correction is there."""
+    """The restored table is of an entry that differs at c, so that the next correction is there and shows that entry."""
     c = byte_place(rng, page, len(page.q.entry))
     page.store()
     page.correct(c, byte_for(rng, page, c), society(rng, page))
     page.restore()
-    page.correct(c, byte_for(rng, page, c), society(rng, page))
+    page.edit(c, byte_for(rng, page, c))
+    page.show(c, society(rng, page))
 
 
 # The outcome of the first question, and the calls behind it.

@@ -39,6 +39,11 @@ def cells(table, count, width):
     return [(i % width, *table[2 * i:2 * i + 2]) for i in range(count)]
 
 
+def differ_elsewhere(old, new, c):
+    """Document 02 on 21: the old and new entries differ in length or at a place other than c."""
+    return len(old) != len(new) or old[:c] + old[c + 1:] != new[:c] + new[c + 1:]
+
+
 def is_result(outcome): return outcome == 1 or outcome >= 5
 
 
@@ -69,11 +74,11 @@ class Chain:
 
     def correct(self, c, byte, variable, place):
         """Makes the byte at c another, and asks about a pair."""
-        again, before = self.q.entry[c] == byte, self.table[:]
+        old, before = self.q.entry, self.table[:]
         self.q, self.c = with_byte(self.q, c, byte)._replace(variable=variable, place=place), c
-        self.found = self.maker.correction(self.first.entry, self.q, c, byte, self.table)
+        self.found = self.maker.correction(self.first.entry, old, self.q, c, self.table)
         for met in self.retained(before): self.maker.tally[met] += 1
-        self.note(again)
+        self.note(old[c] == byte)
 
     def retained(self, before):
         """What is met among the cells whose pairs the question reaches: the outcomes of the retained ones, of those that only their reach
@@ -99,8 +104,7 @@ class Chain:
     def refused(self, number, c, lent=None, **change):
         """A correction that must be refused with this number. The byte stays as it is, and so does the table."""
         q, table = self.q._replace(**change), self.table[:lent]
-        byte = q.entry[c] if c < len(q.entry) else 0
-        found = self.maker.correction(change.get("entry", self.first.entry), q, c, byte, table)
+        found = self.maker.correction(change.get("entry", self.first.entry), q.entry, q, c, table)
         if not self.maker.reference.refused(found) or found.number != number: stop(f"not refused with {number}: {q}")
         if table != self.table[:lent]: stop(f"a refusal changes the table: {q}")
         if number == 19:
@@ -271,10 +275,10 @@ def far_fewer(count, without): return without >= MANY and FEWER * count <= witho
 
 def saves(maker, q):
     """Does a correction of the last byte decide far fewer cells by the reach?"""
-    last, table = len(q.entry) - 1, maker.reference.question(q)[1]
-    q = with_byte(q, last, q.entry[last] ^ 1)
+    old, last, table = q.entry, len(q.entry) - 1, maker.reference.question(q)[1]
+    q = with_byte(q, last, old[last] ^ 1)
     without = maker.reference.decided_without_reach(q, last, table)
-    return far_fewer(maker.reference.correct(q, last, table).count, without)
+    return far_fewer(maker.reference.correct(old, q, last, table).count, without)
 
 
 def near_end(chain, c, byte):

@@ -3,10 +3,11 @@ a question whose entry and table are kept, or a blank table, and then further qu
 Questions are taken from the list, of each kind with each outcome; lines of registers are made here.
 
 Of every further question that is not refused, the direct evaluation must say the same as reader.py: outcome, end, named pair, how many
-cells were blank before, and every cell of the table. A fresh question must have the same outcome, end and named pair. Two further
+cells were blank before, and every cell of the table. A fresh question must have the same outcome, end and named pair. So it is with the
+corrections, over the cells that stay; the old entry that a correction shows is the one of which the table is. Two further
 questions are asked in both orders: tables, answers and the sum of the counts must be the same, and from a blank table that sum is the
 number of pairs reached from either."""
-from corrections import CELLS, FAR, FAULTS, OUTCOMES, byte_for, byte_place, faults, kind_of, with_byte
+from corrections import CELLS, FAR, FAULTS, OUTCOMES, byte_for, byte_place, cells, faults, kind_of, stays, with_byte
 from direct import Direct
 from making import stop
 from questions import (NUMBERS, cells_due, generator, hidden_left, left_sums, no_rule, own_first, question, variables_of, words_text,
@@ -33,6 +34,7 @@ class Page:
 
     def __init__(self, maker, classes, q, blank=False):
         self.maker, self.classes, self.first, self.q, self.c = maker, classes, q, q, 0
+        self.old = q.entry      # of which the table is
         self.rules = maker.reference.module.read_sheet(q.sheet).rules
         self.table = maker.blank(q) if blank else maker.kept(q)[1]
         self.before, self.calls = "blank table" if blank else "question", []
@@ -64,27 +66,31 @@ class Page:
     def ask(self, pair):
         """A further question."""
         q, direct, held = self.q._replace(variable=pair[0], place=pair[1]), self.direct(pair), holds(self.cell(pair)[0])
-        expected, count = self.expected(direct)
+        expected, count = self.expected(direct, self.table)
         self.note(direct, pair, count)
         found = self.maker.further(self.first.entry, q, self.table, f"{held:10}  {q.group}", self.asked)
-        if self.maker.reference.refused(found): stop(f"refused with {found.number}: {q}")
-        fresh = self.maker.reference.question(q)[0]
-        if found[:3] != fresh[:3]: stop(f"a further question says {found}, a fresh one {fresh}: {q}")
-        said = direct.outcome, direct.end, direct.named, count
-        if found != said: stop(f"the direct evaluation says {said}, reader.py {found}: {q}")
-        if self.table != expected: stop(f"the direct evaluation has another table than reader.py: {q}")
+        self.compare(q, found, direct, expected, count)
         self.before = "further question"
         return found
 
-    def expected(self, direct):
-        """The table that a further question leaves, and how many of the cells of reached pairs are blank before."""
-        table, count = self.table[:], 0
+    def expected(self, direct, before):
+        """The table that a call leaves of one of which nothing is blanked, and how many of the cells of reached pairs are blank before."""
+        table, count = before[:], 0
         for pair, cell in direct.cells().items():
             i = self.number(pair)
-            if self.table[2 * i] == 0: count += 1
-            elif self.cell(pair) != cell: stop(f"a kept cell is not its pair's: {self.q}")
+            if before[2 * i] == 0: count += 1
+            elif tuple(before[2 * i:2 * i + 2]) != cell: stop(f"a kept cell is not its pair's: {self.q}")
             table[2 * i:2 * i + 2] = cell
         return table, count
+
+    def compare(self, q, found, direct, expected, count):
+        """What is found, beside a fresh question and the direct evaluation."""
+        if self.maker.reference.refused(found): stop(f"refused with {found.number}: {q}")
+        fresh = self.maker.reference.question(q)[0]
+        if found[:3] != fresh[:3]: stop(f"over a kept table there is {found}, a fresh question says {fresh}: {q}")
+        said = direct.outcome, direct.end, direct.named, count
+        if found != said: stop(f"the direct evaluation says {said}, reader.py {found}: {q}")
+        if self.table != expected: stop(f"the direct evaluation has another table than reader.py: {q}")
 
     def note(self, direct, pair, count):
         size, reached = len(self.q.entry), len(direct.results) + len(direct.waiting)
@@ -99,17 +105,39 @@ class Page:
         if direct.named and direct.named != pair: self.tally("waiting", "another pair named than asked")
 
     def correct(self, c, byte, pair):
-        """Makes the byte at c another, and asks about a pair."""
-        self.q, self.c = with_byte(self.q, c, byte), c
-        q = self.q._replace(variable=pair[0], place=pair[1])
-        found = self.maker.correction(self.first.entry, q, c, byte, self.table, self.corrected)
-        if self.maker.reference.refused(found): stop(f"refused with {found.number}: {q}")
-        self.before = "correction"
+        """Makes the byte at c another, and asks about a pair; the kept entry as it was is shown."""
+        if self.q.entry != self.old: stop(f"the table is of another entry: {self.q}")
+        self.q = with_byte(self.q, c, byte)
+        self.ask_corrected(c, pair, self.maker.correction, self.first.entry)
+
+    def edit(self, c, byte):
+        """Makes the byte at c another, and asks nothing."""
+        self.maker.edit(self.first, c, byte, self.q.entry[c])
+        self.q = with_byte(self.q, c, byte)
+
+    def show(self, c, pair):
+        """Asks about a pair by a correction at c of the entry as it stands; the entry of which the table is, is shown."""
+        self.ask_corrected(c, pair, self.maker.shown)
+
+    def ask_corrected(self, c, pair, call, *stored):
+        """A correction at c that is answered."""
+        q, direct = self.q._replace(variable=pair[0], place=pair[1]), self.direct(pair)
+        expected, count = self.expected(direct, self.staying(c))
+        found = call(*stored, self.old, q, c, self.table, self.corrected)
+        self.compare(q, found, direct, expected, count)
+        self.old, self.c, self.before = self.q.entry, c, "correction"
+
+    def staying(self, c):
+        """The table as a correction at c blanks it."""
+        table = self.table[:]
+        for i, cell in enumerate(cells(table, cells_due(self.q), len(self.q.entry) + 1)):
+            if not stays(*cell, c): table[2 * i:2 * i + 2] = 0, 0
+        return table
 
     def anew(self, pair):
         """A question about the first entry: the table is blanked."""
         self.q = self.first._replace(variable=pair[0], place=pair[1])
-        self.table, self.before = self.maker.kept(self.q)[1], "question"
+        self.table, self.old, self.before = self.maker.kept(self.q)[1], self.q.entry, "question"
 
     def refused(self, number, **change):
         """A further question that must be refused with this number. The table stays as it is."""

@@ -5,16 +5,17 @@
 
 READER is an implementation of documents 01 and 02 in Python, reader.py, made apart from this repository. RANGES are the classes of the
 bytes, or a file with them, as 48-57:1,9:4 and so on; a byte in none has class 0. The default is document 01's with document 02's order 5, and
-reader.py's own classes must agree with it; all else is as of order 9. lua5.4 and lua-lpeg are installed from Debian where they are absent. It
+reader.py's own classes must agree with it; all else is as of order 10. lua5.4 and lua-lpeg are installed from Debian where they are absent. It
 is run by hand; a second run writes the same bytes.
 
 What comes from where:
   LPeg (judge.lua)  outcome and end of each question whose rules LPeg takes, and the named pair of missing and end. It refuses rules
                     that may be left recursive. Each match is a process of its own with a limit of time, which ends this script.
   reader.py         loops; outcome and end where LPeg refuses the rules or would take too many calls; counts, tables, refusals,
-                    the machine's runs, readings and what the checker says of them; corrections (corrections.py); openings
-                    (openings.py) and further questions (further.py), with a direct evaluation (direct.py) beside it; tables
-                    stored by place (archive.py), with the document's formula beside it.
+                    the machine's runs, readings and what the checker says of them; corrections (corrections.py), with the
+                    document's sentence on 21 beside it; openings (openings.py) and further questions (further.py), with a direct
+                    evaluation (direct.py) beside it; tables stored by place (archive.py), with the document's formula beside it;
+                    old entries that are shown (shown.py).
 Where both judge they must agree, or this script ends with an error. k and h, from which the machine's budgets and rooms are chosen, are
 computed by the definition. Nothing comes from the program under test. The layout of the files is described in
 crates/test_questions/src/main.rt.
@@ -35,6 +36,7 @@ import corrections
 import further
 import openings
 import questions
+import shown
 from making import Store, install, line, load_reference, stop
 from questions import cells_due
 
@@ -42,7 +44,7 @@ CRATE = os.path.join(HERE, "..", "..", "crates", "test_questions")
 
 CLASSES = ("48-57:1,65-90:2,97-122:3,9:4,32:4,33-47:5,58-64:5,91-96:5,123-126:5,"
            "192-214:2,216-222:2,223-246:3,248-255:3,160:4,161-191:5,215:5,247:5,128-159:6")
-ORDER = 9               # reader.py answers as of this order of document 02
+ORDER = 10              # reader.py answers as of this order of document 02
 NO_REACH = 4            # as of this one only cells above the corrected byte stay
 
 FILE_BYTES = 262144     # the program's buffers
@@ -50,10 +52,11 @@ OUTPUT_BYTES = 262144
 NUMBERS = questions.NUMBERS     # of the program's table, and of its work slice, where the machine's frames are
 UNTOUCHED_NUMBER, UNTOUCHED_BYTE = 77777, 42
 MODULUS = 9999991
+PLACES = 8192           # x of a correction that shows an old entry of its own is so many times n, and c
 
 # Tasks of a request, and kinds of answers beside them.
-QUESTION, MACHINE, READING, DAMAGE, KEPT, CORRECTION, PUT, OPENING, FURTHER, BLANK, STORE, RESTORE = range(12)
-WRITER, CHECKER, END, CORRECTED, BEFORE, OPENED, ASKED, BLANKED, STORED, RESTORED = 2, 3, 5, 6, 7, 8, 9, 10, 11, 12
+QUESTION, MACHINE, READING, DAMAGE, KEPT, CORRECTION, PUT, OPENING, FURTHER, BLANK, STORE, RESTORE, SHOWN, EDIT = range(14)
+WRITER, CHECKER, END, CORRECTED, BEFORE, OPENED, ASKED, BLANKED, STORED, RESTORED, EDITED = 2, 3, 5, 6, 7, 8, 9, 10, 11, 12, 13
 CODES = {"success": 0, "failure": 1, "loop": 2, "missing": 3, "end": 4, "spent": 6, "no frame": 7}
 DONE, NO_OPENING, REFUSED = 0, 8, 9
 
@@ -143,9 +146,12 @@ class Reference:
         if table != left: stop(f"an opening leaves another table than the verdict: {q}")
         return found
 
-    def correct(self, q, c, table):
-        """A correction at c over a table, with as many numbers of work slice as the program lends."""
-        return self.module.correct(q.sheet, q.entry, q.variable, q.place, table, [0] * cells_of(len(table)), c, order=ORDER)
+    def correct(self, old, q, c, table):
+        """A correction at c over a table, with as many numbers of work slice as the program lends. The document's sentence on 21 must agree."""
+        found = self.module.correct(q.sheet, q.entry, q.variable, q.place, table, [0] * cells_of(len(table)), c, old, ORDER)
+        number = found.number if self.refused(found) else None
+        if number in (None, 19, 21) and (number == 21) != corrections.differ_elsewhere(old, q.entry, c): stop(f"21 is wrong: {q}")
+        return found
 
     def further(self, q, table):
         """A further question over a table."""
@@ -221,6 +227,11 @@ class Files:
         return len(self.requests)
 
     def answer(self, *numbers): self.expected.append(line(*numbers))
+
+    def followed(self, entry, count):
+        """So many bytes of the entries' file from where an entry stands."""
+        at = self.entries.place(entry)[0]
+        return bytes(self.entries.data[at:at + count])
 
     def write(self):
         data = os.path.join(CRATE, "data")
@@ -379,12 +390,25 @@ class Maker:
         self.tally[(name + " judge", source)] += 1
         return source
 
-    def correction(self, stored, q, c, byte, table, name="correction"):
+    def correction(self, stored, old, q, c, table, name="correction"):
         """A question about a kept entry whose byte at c was corrected; stored is an entry of the same length in the file."""
-        found = self.reference.correct(q, c, table)
+        found = self.reference.correct(old, q, c, table)
+        byte = q.entry[c] if c < len(q.entry) else 0
         number = self.files.request(q._replace(entry=stored), CORRECTION, c, 256 * len(table) + byte)
         self.answered(CORRECTED, name, number, q, found, table)
         return found
+
+    def shown(self, old, q, c, table, name):
+        """A correction at c of the kept entry as it stands, with an old entry that is in the file."""
+        found = self.reference.correct(old, q, c, table)
+        number = self.files.request(q._replace(entry=old), SHOWN, PLACES * len(q.entry) + c, 256 * len(table))
+        self.answered(CORRECTED, name, number, q, found, table)
+        return found
+
+    def edit(self, stored, c, byte, before):
+        """Makes a byte of the kept entry another."""
+        number = self.files.request(stored, EDIT, c, byte)
+        self.files.answer(number, EDITED, 0, 0, 0, before, 0)
 
     def further(self, stored, q, table, last, name):
         """A further question about a kept entry, with its line of SOURCES.txt."""
@@ -477,7 +501,7 @@ def summary(maker, sizes, ranges):
                  "near the end", "refused with 19", "puts", "openings", "opening kind", "opening's entry", "least opening", "m, named place",
                  "opening judge", "further chains", "further questions", "further question judge", "further's entry", "asked cell",
                  "call before", "newly decided", "waiting", "both orders", "further's corrections", "further's correction judge",
-                 "further 19", "19 at", "taken", *archive.KINDS):
+                 "further 19", "19 at", "taken", *archive.KINDS, *shown.KINDS):
         for (k, name), count in sorted(maker.tally.items()):
             if k == kind: out.append(f"{kind:17} {count:6}  {name}")
         out.append("")
@@ -490,14 +514,20 @@ A line for each question: its line in questions.txt, V, the entry's length, vari
 its group. Judged by LPeg: outcome, end and the pair of missing and end are LPeg's, and reader.py agrees. The count of cells and the
 table's sum, over outcomes and reaches, are always reader.py's, and so are all answers of the machine, the writer and the checker.
 Corrections have no lines here; their answers are reader.py's, and LPeg agrees on outcome, end and the pair of missing and end where it is
-named as their judge. Of the corrections near the end, the cells without the reach are those that reader.py decides newly as of order 4.
+named as their judge. Whether 21 is due, the document's sentence, written down in corrections.py, says too of each of them. Of the
+corrections near the end, the cells without the reach are those that reader.py decides newly as of order 4.
 Openings have no lines either. Least openings, which LPeg cannot judge, are reader.py's; the direct evaluation of direct.py agrees, of the
 whole entry, of the least opening and of the one that is a byte shorter. Where there is none LPeg agrees on the verdict's outcome and end,
 if it is named as the judge.
 Further questions have lines of their own behind those of the questions, with what the asked cell holds before the call. The direct
-evaluation agrees with every answer of theirs that is no refusal, with the count and with the whole table.
-Tables stored by place and taken back have no lines; the further questions over them, which have, are the last ones. Stored cells are
-reader.py's, and the document's formula, written down in archive.py, agrees; the numbers of the refusals are given there too.
+evaluation agrees with every answer of theirs that is no refusal, with the count and with the whole table, and so it does with the
+corrections between them.
+Tables stored by place and taken back have no lines; the further questions over them, which have, are the last ones but those of the next
+paragraph. Stored cells are reader.py's, and the document's formula, written down in archive.py, agrees; the numbers of the refusals are
+given there too.
+Corrections that show an old entry of their own are judged as those between further questions are; the numbers of their refusals are given
+in shown.py. The stale cells are those that a correction at the wrong place would have retained. Further questions behind them are the last
+ones.
 
 """
 
@@ -540,6 +570,7 @@ def make(options):
         openings.run(maker, asked, classes)
         further.run(maker, asked, classes)
         archive.run(maker, asked, classes)
+        shown.run(maker, asked, classes)
     text = summary(maker, maker.files.write(), ranges)
     write_sources(maker, text)
     print(text)
@@ -548,6 +579,7 @@ def make(options):
     openings.check_numbers(maker.tally)
     further.check_numbers(maker.tally)
     archive.check_numbers(maker.tally)
+    shown.check_numbers(maker.tally)
 
 
 def main():

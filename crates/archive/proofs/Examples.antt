@@ -11,8 +11,8 @@ use Rattle.grammar.specs.Refusal.{accepted, checked}
 use Rattle.grammar.proofs.Fitting.{neither-true}
 use Rattle.schema.specs.Cells.{heldAt, reachAt, cellAt}
 use Rattle.schema.specs.Derivation.{_at_}
-use Rattle.kept.specs.Range.{some}
-use Rattle.kept.proofs.Ranged.{some-each}
+use Rattle.kept.specs.Some.{some}
+use Rattle.kept.proofs.Some.{some-each}
 use Rattle.archive.specs.Archive.{told, Moved, StorePromise}
 use Rattle.archive.specs.Layout.{byVariable, byPosition, cellIn}
 use Rattle.archive.specs.Refusals.{archiveCondition, movable}

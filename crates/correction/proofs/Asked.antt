@@ -19,30 +19,31 @@ use Rattle.schema.specs.Table.{cells}
 use Rattle.finish.specs.Reply.{Reply}
 use Rattle.walk.specs.Over.{OverReady, Over}
 use Rattle.memo.proofs.Questioned.{read}
+use Rattle.kept.specs.Differs.{differsElsewhere}
 use Rattle.kept.specs.Kept.{retained}
 use Rattle.kept.specs.Range.{cellsOut}
+use Rattle.kept.proofs.Differing.{then-differs}
 use Rattle.passes.specs.Passes.{PassReady, Starts, StartsUnless}
-use Rattle.correction.specs.Call.{Replies}
-use Rattle.correction.specs.Correction.{KeptBefore}
+use Rattle.correction.specs.Call.{KeptOf, Replies}
 use Rattle.correction.specs.Refusals.{correctionCondition, correctionOrder, correctable}
 use Rattle.correction.proofs.Refusing.{correction-late, correction-tested}
 use Rattle.correction.proofs.Starting.{before-right}
 use Rattle.correction.proofs.Testing as testing
 use Rattle.correction.proofs.Testing.{may-pass, range-is}
 
-module _ {s input : List ℕ} {A p : ℕ} {before after : List ℕ} {r : Sheet} (admission : Admission s input A p before after r) (c : ℕ) (table work : List ℕ) where
+module _ {s input : List ℕ} {A p : ℕ} {before after : List ℕ} {r : Sheet} (admission : Admission s input A p before after r) (old : List ℕ) (c : ℕ) (table work : List ℕ) where
   abbrev own : Grammar → ℕ → ℕ → Bool
-  own = correctionCondition input c table
+  own = correctionCondition old input c table
 
   abbrev Kept : Grammar → Type 0
-  Kept = KeptBefore input c table
+  Kept = KeptOf old table
 
   abbrev start : Pair → ℕ × ℕ
   start = retained (c + 1) (length input) table
 
   -- The call with its table, its work slice and its answer.
   abbrev pub Corrects : List ℕ → List ℕ → Checked Reply → Type 0
-  Corrects table′ work′ t = Replies (correctable s input (A at p) c table (length work)) input (A at p) (KeptBefore input c table) (retained (c + 1) (length input) table) table table′ work work′ t
+  Corrects table′ work′ t = Replies (correctable s old input (A at p) c table (length work)) input (A at p) (KeptOf old table) (retained (c + 1) (length input) table) table table′ work work′ t
 
   -- Refused before the slices are looked at,
   pub refused-first : {table′ work′ : List ℕ} {x l : ℕ} {t : Checked Reply} → r ≡ Refused x l → t ≡ refused x l → table′ ≡ table → work′ ≡ work → Corrects table′ work′ t
@@ -62,34 +63,41 @@ module _ {s input : List ℕ} {A p : ℕ} {before after : List ℕ} {r : Sheet} 
       pub refused-position : {table′ work′ : List ℕ} {t : Checked Reply} → length input ≤ c → t ≡ refused 18 0 → table′ ≡ table → work′ ≡ work → Corrects table′ work′ t
       refused-position h =
           testing.refused-own own correctionOrder correction-late Kept start admission table work e tested enough
-          (correction-tested input c table g ∙ rw (le-ltb c (length input) h))
+          (correction-tested old input c table g ∙ rw (le-ltb c (length input) h))
 
       module _ (below : c < length input) where
-        -- What the passes are handed.
-        pub passes : PassReady (l .variables) (length input) (c + 1) table
-        passes = may-pass admission table work e tested enough (c + 1) (omega arith)
+        -- for an old input that differs elsewhere,
+        pub refused-elsewhere : {table′ work′ : List ℕ} {t : Checked Reply} → differsElsewhere c old input ≡ true → t ≡ refused 21 0 → table′ ≡ table → work′ ≡ work → Corrects table′ work′ t
+        refused-elsewhere h =
+            testing.refused-own own correctionOrder correction-late Kept start admission table work e tested enough
+            (correction-tested old input c table g ∙ rw (lt-ltb c (length input) below, h))
 
-        module _ {out : Bool} (refuses : out ≡ cellsOut (l .variables) (length input) (retained (c + 1) (length input) table)) where
-          -- for a retained cell out of range.
-          pub refused-range : (table′ : List ℕ) {work′ : List ℕ} {t : Checked Reply} → out ≡ true → t ≡ refused 19 0
-              → StartsUnless out (l .variables) (length input) (retained (c + 1) (length input) table) table table′ → work′ ≡ work → Corrects table′ work′ t
-          refused-range table′ is t k m =
-              testing.refused-own own correctionOrder correction-late Kept start admission table work e tested enough
-              (correction-tested input c table g ∙ rw (lt-ltb c (length input) below, range-is admission table work e tested enough start refuses, is)) t
-              (subst (λ (b : Bool). StartsUnless b (l .variables) (length input) start table table′) is k) m
+        module _ (same : differsElsewhere c old input ≡ false) where
+          -- What the passes are handed.
+          pub passes : PassReady (l .variables) (length input) (c + 1) table
+          passes = may-pass admission table work e tested enough (c + 1) (omega arith)
 
-          module _ (is : out ≡ false) (table₁ : List ℕ) (retains : StartsUnless out (l .variables) (length input) (retained (c + 1) (length input) table) table table₁) where
-            blanks : Starts (l .variables) (length input) start table table₁
-            blanks = subst (λ (b : Bool). StartsUnless b (l .variables) (length input) start table table₁) is retains
+          module _ {out : Bool} (refuses : out ≡ cellsOut (l .variables) (length input) (retained (c + 1) (length input) table)) where
+            -- for a retained cell out of range.
+            pub refused-range : (table′ : List ℕ) {work′ : List ℕ} {t : Checked Reply} → out ≡ true → t ≡ refused 19 0
+                → StartsUnless out (l .variables) (length input) (retained (c + 1) (length input) table) table table′ → work′ ≡ work → Corrects table′ work′ t
+            refused-range table′ is t k m =
+                testing.refused-own own correctionOrder correction-late Kept start admission table work e tested enough
+                (correction-tested old input c table g ∙ rw (lt-ltb c (length input) below, same, range-is admission table work e tested enough start refuses, is)) t
+                (subst (λ (b : Bool). StartsUnless b (l .variables) (length input) start table table′) is k) m
 
-            -- What is then asked is handed,
-            pub asks : OverReady (ruleIn after) input (l .variables) A p table₁ work
-            asks =
-                testing.asks own correctionOrder correction-late Kept start admission table work e tested enough (sym refuses ∙ is) blanks
+            module _ (is : out ≡ false) (table₁ : List ℕ) (retains : StartsUnless out (l .variables) (length input) (retained (c + 1) (length input) table) table table₁) where
+              blanks : Starts (l .variables) (length input) start table table₁
+              blanks = subst (λ (b : Bool). StartsUnless b (l .variables) (length input) start table table₁) is retains
 
-            -- and the answer is the correction's.
-            pub replies : {table′ work′ : List ℕ} {t : Checked Reply} → Over (ruleIn after) (l .variables) input (A at p) table₁ table′ work work′ t → Corrects table′ work′ t
-            replies =
-                testing.replied own correctionOrder correction-late Kept start admission table work e tested enough (sym refuses ∙ is) blanks
-                (λ g e. before-right s input table g e c)
-                (correction-tested input c table g ∙ rw (lt-ltb c (length input) below, range-is admission table work e tested enough start refuses, is))
+              -- What is then asked is handed,
+              pub asks : OverReady (ruleIn after) input (l .variables) A p table₁ work
+              asks =
+                  testing.asks own correctionOrder correction-late Kept start admission table work e tested enough (sym refuses ∙ is) blanks
+
+              -- and the answer is the correction's.
+              pub replies : {table′ work′ : List ℕ} {t : Checked Reply} → Over (ruleIn after) (l .variables) input (A at p) table₁ table′ work work′ t → Corrects table′ work′ t
+              replies =
+                  testing.replied own correctionOrder correction-late Kept start admission table work e tested enough (sym refuses ∙ is) blanks
+                  (λ g e. before-right s input table g e old c (then-differs c old input same))
+                  (correction-tested old input c table g ∙ rw (lt-ltb c (length input) below, same, range-is admission table work e tested enough start refuses, is))

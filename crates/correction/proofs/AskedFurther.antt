@@ -20,8 +20,7 @@ use Rattle.walk.specs.Over.{OverReady, Over}
 use Rattle.memo.proofs.Questioned.{read}
 use Rattle.kept.specs.Range.{cellsOut}
 use Rattle.passes.specs.Passes.{PassReady, Starts}
-use Rattle.correction.specs.Call.{Replies}
-use Rattle.correction.specs.Further.{KeptOf}
+use Rattle.correction.specs.Call.{KeptOf, Replies}
 use Rattle.correction.specs.Refusals.{furtherCondition, furtherOrder, askable}
 use Rattle.correction.proofs.Refusing.{further-late, further-tested}
 use Rattle.correction.proofs.Starting.{of-right}

@@ -9,4 +9,5 @@ pub mod AskedFurther
 pub mod Answered
 pub mod Promised
 pub mod PromisedFurther
+pub mod Unshown
 pub mod Shared

@@ -18,8 +18,8 @@ use Rattle.memo.specs.Answer.{QuestionPromise}
 use Rattle.kept.specs.Kept.{KeptTable, further}
 use Rattle.kept.specs.Range.{cellsOut}
 use Rattle.kept.proofs.Ranged.{none-right}
-use Rattle.correction.specs.Call.{KeptAnswers, KeptCall, Alike}
-use Rattle.correction.specs.Further.{KeptOf, FurtherPromise}
+use Rattle.correction.specs.Call.{KeptAnswers, KeptCall, KeptOf, Alike}
+use Rattle.correction.specs.Further.{FurtherPromise}
 use Rattle.correction.specs.Refusals.{furtherCondition, furtherOrder, askable, FurtherRefuses}
 use Rattle.correction.proofs.Answered as answered
 use Rattle.correction.proofs.Refusing as refusing

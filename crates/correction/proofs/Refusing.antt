@@ -6,19 +6,22 @@ use mathlib.Core.Logic.{_≢_, _↔_}
 use mathlib.Core.Path.{_≡_, refl, sym, ap, ap₂, _∙_}
 use Prim.Native.Nat.{ℕ, _+_, _≤_, _<_}
 use native.Mathlib.Omega.{arith}
-use borrow.Author.Tests.{le-ltb}
+use lib.Dec.{ltb}
+use borrow.Author.Tests.{le-ltb, ltb-true, not-false}
 use Rattle.grammar.specs.Refusal.{Checked, refused, accepted, checked}
 use Rattle.grammar.specs.Sheet.{Grammar, grammarOf, sheet}
 use Rattle.grammar.proofs.Accepted.{describes}
-use Rattle.grammar.proofs.Refusals.{then, Each, each-append, each-also, refused-each, refused-exactly, accepted-same, checked-then, checked-below, checked-from}
+use Rattle.grammar.proofs.Refusals.{then, Each, each-append, each-also, refused-each, refused-exactly, accepted-same, accepted-none, checked-then, checked-below, checked-from}
 use Rattle.schema.specs.Derivation.{Pair}
 use Rattle.schema.specs.Handed.{Handed, handedCondition, handedOrder, handed, questionOf}
 use Rattle.schema.proofs.CallRefusals.{call-numbers}
 use Rattle.schema.proofs.Handed.{handed-sheet}
 use lib.ListN.{length}
 use Rattle.schema.specs.Table.{contents}
+use Rattle.kept.specs.Differs.{DiffersAt, differsElsewhere}
 use Rattle.kept.specs.Kept.{retained}
 use Rattle.kept.specs.Range.{cellsOut}
+use Rattle.kept.proofs.Differing.{then-differs}
 use Rattle.correction.specs.Refusals.{conditionOf, orderOf, Refuses, callable, correctedOut, correctionCondition, correctionOrder, furtherCondition, furtherOrder}
 
 module _ (s input : List ℕ) (x : Pair) (table work : ℕ) (own : Grammar → ℕ → ℕ → Bool) (order : List (ℕ × ℕ)) where
@@ -69,16 +72,27 @@ module _ (s input : List ℕ) (x : Pair) (table work : ℕ) (own : Grammar → �
   unfolding conditionOf
   never-refused g reads y l late none e = true≢false (sym (rw (le-ltb y 18 late, describes s g reads .grammar-is) at (call-refused y l .0 e .holds)) ∙ none)
 
--- ---- The correction's own: 18 and then 19.
+-- ---- The correction's own: 18, 21 and then 19.
 
 pub correction-late : Each (λ y. 18 ≤ y) correctionOrder
-correction-late = (omega arith, (omega arith, tt))
+correction-late = (omega arith, (omega arith, (omega arith, tt)))
 
-pub correction-tested : (input : List ℕ) (c : ℕ) (table : List ℕ) (g : Grammar) → checked (correctionCondition input c table g) correctionOrder g
+pub correction-tested : (old input : List ℕ) (c : ℕ) (table : List ℕ) (g : Grammar) → checked (correctionCondition old input c table g) correctionOrder g
     ≡ cond (correctedOut (length input) c) (refused 18 0)
-    (cond (cellsOut (g .variables) (length input) (retained (c + 1) (length input) table)) (refused 19 0) (accepted g))
+    (cond (differsElsewhere c old input) (refused 21 0)
+    (cond (cellsOut (g .variables) (length input) (retained (c + 1) (length input) table)) (refused 19 0) (accepted g)))
 unfolding checked correctionCondition
-correction-tested input c table g = refl
+correction-tested old input c table g = refl
+
+-- Where none of them holds, c is the position of a byte, and the two inputs differ there at most.
+module _ (old input : List ℕ) (c : ℕ) (table : List ℕ) (g : Grammar) (none : checked (correctionCondition old input c table g) correctionOrder g ≡ accepted g) where
+  pub correction-below : c < length input
+  unfolding correctionCondition
+  correction-below = ltb-true c (length input) (not-false (ltb c (length input)) (accepted-none (correctionCondition old input c table g) correctionOrder g g none .0))
+
+  pub correction-differs : DiffersAt c old input
+  unfolding correctionCondition
+  correction-differs = then-differs c old input (accepted-none (correctionCondition old input c table g) correctionOrder g g none .1 .0)
 
 -- ---- The further question's own: 19.
 

@@ -17,8 +17,7 @@ use Rattle.finish.specs.Reply.{Reply, countOf, told}
 use Rattle.finish.specs.declared.Answer.{Answer}
 use Rattle.kept.specs.Kept.{Blank, KeptTable, blank}
 use Rattle.kept.proofs.Either as either
-use Rattle.correction.specs.Call.{KeptAnswers, KeptCall, Alike}
-use Rattle.correction.specs.Further.{KeptOf}
+use Rattle.correction.specs.Call.{KeptAnswers, KeptCall, KeptOf, Alike}
 use Rattle.correction.specs.Shared.{Askable, InTurn, SharedTable}
 use Rattle.correction.proofs.Answered.{answers-alike, count-new}
 use Rattle.correction.proofs.PromisedFurther as further

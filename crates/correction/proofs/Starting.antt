@@ -7,17 +7,17 @@ use Rattle.grammar.specs.Refusal.{accepted}
 use Rattle.grammar.specs.Sheet.{Grammar, sheet}
 use Rattle.schema.specs.Table.{contents}
 use Rattle.schema.proofs.SheetClosed.{sheet-closed}
+use Rattle.kept.specs.Differs.{DiffersAt}
 use Rattle.kept.specs.Kept.{retained}
 use Rattle.kept.proofs.RightCells.{RightCells, retain-right, kept-right}
-use Rattle.correction.specs.Correction.{KeptBefore}
-use Rattle.correction.specs.Further.{KeptOf}
+use Rattle.correction.specs.Call.{KeptOf}
 
 module _ (s input table : List ℕ) (g : Grammar) (reads : sheet s ≡ accepted g) where
-  -- What a correction retains,
-  pub before-right : (c : ℕ) → KeptBefore input c table g → RightCells (g .rule) (g .variables) input (retained (c + 1) (length input) table)
-  before-right c k =
+  -- What a correction retains of a table of the old input, which differs at c at most,
+  pub before-right : (old : List ℕ) (c : ℕ) → DiffersAt c old input → KeptOf old table g → RightCells (g .rule) (g .variables) input (retained (c + 1) (length input) table)
+  before-right old c d k =
       let closed = sheet-closed s g reads in
-      retain-right (g .rule) (g .variables) closed (k .0) input c (k .1) table (kept-right (g .rule) (g .variables) closed (k .2))
+      retain-right (g .rule) (g .variables) closed old input c d table (kept-right (g .rule) (g .variables) closed k)
 
   -- and all that a further question finds.
   pub of-right : KeptOf input table g → RightCells (g .rule) (g .variables) input (contents (length input) table)

@@ -12,6 +12,7 @@ use Rattle.schema.specs.Reached.{Named, Number}
 use Rattle.schema.specs.Table.{Within, cells, code, held, Holds, Table}
 use Rattle.finish.specs.Reply.{Reply, reply, outcomeOf, SaysSame, told}
 use Rattle.finish.specs.declared.Answer.{Answer}
+use Rattle.kept.specs.Kept.{KeptTable}
 use Rattle.kept.specs.New.{New}
 
 -- Order 4, of a table that was kept: "the answer is the one a fresh table gives; non-blank afterwards are the retained non-blank cells and those of the
@@ -42,6 +43,10 @@ pub record KeptCall (rule : ℕ → Rule) (v : ℕ) (input : List ℕ) (x : Pair
   pub beyond : drop (cells v (length input)) work′ ≡ drop (cells v (length input)) work
   pub work-size : length work′ ≡ length work
   pub from-kept : Kept → KeptAnswers rule v input x start table table′ replies
+
+-- "A kept table is, for one sheet and entry, ..".
+abbrev pub KeptOf : List ℕ → List ℕ → Grammar → Type 0
+KeptOf input table g = KeptTable (g .rule) (g .variables) input table
 
 -- The first refusal, with both slices as they were, or such a call.
 abbrev pub Replies : Checked Grammar → List ℕ → Pair → (Grammar → Type 0) → (Pair → ℕ × ℕ) → List ℕ → List ℕ → List ℕ → List ℕ → Checked Reply → Type 0

@@ -2,18 +2,12 @@
 use mathlib.Core.List.{List}
 use Prim.Native.Nat.{ℕ}
 use lib.ListN.{length}
-use Rattle.grammar.specs.Sheet.{Grammar}
 use Rattle.schema.specs.Derivation.{_at_}
 use Rattle.schema.specs.Table.{contents}
 use Rattle.finish.specs.Reply.{told}
 use Rattle.finish.specs.declared.Answer.{Answer}
-use Rattle.kept.specs.Kept.{KeptTable}
-use Rattle.correction.specs.Call.{Replies}
+use Rattle.correction.specs.Call.{KeptOf, Replies}
 use Rattle.correction.specs.Refusals.{askable}
-
--- "A kept table is, for one sheet and entry, ..".
-abbrev pub KeptOf : List ℕ → List ℕ → Grammar → Type 0
-KeptOf input table g = KeptTable (g .rule) (g .variables) input table
 
 -- The promise of a further question, which "blanks nothing".
 abbrev pub FurtherPromise : List ℕ → List ℕ → ℕ → ℕ → List ℕ → List ℕ → List ℕ → List ℕ → Answer → Type 0

@@ -2,5 +2,6 @@
 pub mod Refusals
 pub mod Call
 pub mod Correction
+pub mod Unshown
 pub mod Further
 pub mod Shared

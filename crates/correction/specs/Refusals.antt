@@ -1,4 +1,4 @@
--- Document 02, orders 4, 6 and 8: the refusals of a correction and of a further question, a question's and then their own. Assumes nothing.
+-- Document 02, orders 4, 6, 8 and 10: the refusals of a correction and of a further question, a question's and then their own. Assumes nothing.
 use mathlib.Core.Bool.{Bool, false, cond, not}
 use mathlib.Core.List.{List, [], _∷_, _++_}
 use Prim.Native.Nat.{ℕ, _+_}
@@ -10,6 +10,7 @@ use Rattle.grammar.specs.Sheet.{Grammar, grammarOf}
 use Rattle.schema.specs.Derivation.{Pair}
 use Rattle.schema.specs.Handed.{handedCondition, handedOrder, questionOf}
 use Rattle.schema.specs.Table.{contents}
+use Rattle.kept.specs.Differs.{differsElsewhere}
 use Rattle.kept.specs.Kept.{retained}
 use Rattle.kept.specs.Range.{cellsOut}
 
@@ -40,16 +41,18 @@ module _ (sheet input : List ℕ) (x : Pair) (table work : ℕ) (own : Grammar �
 abbrev pub correctedOut : ℕ → ℕ → Bool
 correctedOut n c = not (ltb c n)
 
--- The condition of 18 and of 19, of the corrected input and the table before the call; neither has a line.
-unfoldable pub correctionCondition : List ℕ → ℕ → List ℕ → Grammar → ℕ → ℕ → Bool
-correctionCondition input c table g number line =
+-- The condition of 18, of 21 and of 19, of the old input, the corrected one and the table before the call; none has a line. Order 10: "6 tests only the
+-- new one": the question's conditions are of the corrected input, and an old one over 4,096 bytes differs from it in length.
+unfoldable pub correctionCondition : List ℕ → List ℕ → ℕ → List ℕ → Grammar → ℕ → ℕ → Bool
+correctionCondition old input c table g number line =
     cond (eqb number 18) (correctedOut (length input) c)
+    (cond (eqb number 21) (differsElsewhere c old input)
     (cond (eqb number 19) (cellsOut (g .variables) (length input) (retained (c + 1) (length input) table))
-    false)
+    false))
 
--- "in that order after 10"
+-- Order 4: "in that order after 10". Order 10: "21 .., after 18", between 18 and 19.
 abbrev pub correctionOrder : List (ℕ × ℕ)
-correctionOrder = (18, 0) ∷ (19, 0) ∷ []
+correctionOrder = (18, 0) ∷ (21, 0) ∷ (19, 0) ∷ []
 
 -- ---- The further question.
 
@@ -62,11 +65,11 @@ furtherOrder = (19, 0) ∷ []
 
 -- ---- What each call is handed; `work` is the length of the work slice.
 
-abbrev pub correctable : List ℕ → List ℕ → Pair → ℕ → List ℕ → ℕ → Checked Grammar
-correctable sheet input x c table work = callable sheet input x (length table) work (correctionCondition input c table) correctionOrder
+abbrev pub correctable : List ℕ → List ℕ → List ℕ → Pair → ℕ → List ℕ → ℕ → Checked Grammar
+correctable sheet old input x c table work = callable sheet input x (length table) work (correctionCondition old input c table) correctionOrder
 
-abbrev pub CorrectionRefuses : List ℕ → List ℕ → Pair → ℕ → List ℕ → ℕ → ℕ → ℕ → Type 0
-CorrectionRefuses sheet input x c table work = Refuses sheet input x (length table) work (correctionCondition input c table) correctionOrder
+abbrev pub CorrectionRefuses : List ℕ → List ℕ → List ℕ → Pair → ℕ → List ℕ → ℕ → ℕ → ℕ → Type 0
+CorrectionRefuses sheet old input x c table work = Refuses sheet input x (length table) work (correctionCondition old input c table) correctionOrder
 
 abbrev pub askable : List ℕ → List ℕ → Pair → List ℕ → ℕ → Checked Grammar
 askable sheet input x table work = callable sheet input x (length table) work (furtherCondition input table) furtherOrder

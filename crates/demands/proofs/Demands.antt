@@ -44,8 +44,8 @@ use Rattle.demands.proofs.Demand3 as three
 -- ---- Demand 1. "A caller may pass anything .., and the call ends: with an outcome, with the machine's spent or no frame, or with one numbered refusal
 -- under exactly the condition in document 01, its table and output then unchanged." That each call ends and meets its contract, whatever it is
 -- handed, is what the contracts say, which have no `requires`. For the exported calls: entryreader proofs/Demand1.antt, Opened.antt and Archived.antt;
--- for the program's output: proofs/Output.antt; for the correction and the further question of document 02, here and in demand 3: proofs/Kept.antt, and
--- over a table that was stored and restored: proofs/Restored.antt.
+-- for the program's output: proofs/Output.antt; for the correction and the further question of document 02, here and in demand 3: proofs/Kept.antt, of
+-- each marked case as a correction: proofs/Corrected.antt, and over a table that was stored and restored: proofs/Restored.antt.
 
 -- The question.
 pub demand-1-question : (s input : List ℕ) (A p : ℕ) (table table′ work work′ : List ℕ) (r : Answer) → QuestionPromise s input A p table table′ work work′ r

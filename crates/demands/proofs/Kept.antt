@@ -1,5 +1,6 @@
 -- Demands 1 and 3 of a correction and of a further question: of any results that meet their contracts. Document 02, order 8: "Demand 3 holds for a further
 -- question or a correction from a kept table, and is promised from no other". Assumes nothing.
+use mathlib.Core.Bool.{false}
 use mathlib.Core.List.{List, List·Memᴰ}
 use mathlib.Core.Logic.{_↔_}
 use mathlib.Core.Path.{_≡_, refl, ap, ap₂, _∙_, subst}
@@ -29,10 +30,11 @@ use Rattle.opening.specs.Opening.{Finds, OpeningPromise}
 use Rattle.opening.specs.declared.Prefix.{Prefix}
 use Rattle.writer.specs.Writer.{RepliesWriting, WriterPromise}
 use Rattle.writer.specs.declared.Written.{Written}
+use Rattle.kept.specs.Differs.{differsElsewhere}
 use Rattle.kept.specs.Kept.{retained, Blank, KeptTable, blank, asked}
 use Rattle.kept.proofs.Filled.{new-all}
 use Rattle.correction.specs.Call.{KeptAnswers}
-use Rattle.correction.specs.Correction.{KeptBefore, CorrectionPromise}
+use Rattle.correction.specs.Correction.{CorrectionPromise}
 use Rattle.correction.specs.Further.{FurtherPromise}
 use Rattle.correction.specs.Refusals.{CorrectionRefuses, FurtherRefuses}
 use Rattle.correction.proofs.Answered as answered
@@ -44,7 +46,7 @@ use Rattle.demands.proofs.Demand3.{demanded}
 
 -- ---- Of any call whose table was kept.
 
-demanded-kept : (s input : List ℕ) (A p tables works : ℕ) (g : Grammar) → handed s (questionOf input (A at p) tables works) ≡ accepted g
+pub demanded-kept : (s input : List ℕ) (A p tables works : ℕ) (g : Grammar) → handed s (questionOf input (A at p) tables works) ≡ accepted g
     → {start : Pair → ℕ × ℕ} {table table′ : List ℕ} {a : Reply} → KeptAnswers (g .rule) (g .variables) input (A at p) start table table′ a
     → Demand3Kept s input (A at p) g start table′ a
 demanded-kept s input A p tables works g accepts k =
@@ -59,18 +61,20 @@ demanded-kept s input A p tables works g accepts k =
 
 -- ---- The correction.
 
-module _ (s input : List ℕ) (A p c : ℕ) (table work table′ work′ : List ℕ) (r : Answer) (promise : CorrectionPromise s input A p c table table′ work work′ r) where
+module _ (s old input : List ℕ) (A p c : ℕ) (table work table′ work′ : List ℕ) (r : Answer) (promise : CorrectionPromise s old input A p c table table′ work work′ r) where
   -- Demand 1: refused with a number exactly under its condition, and then both slices are as they were.
-  pub demand-1-correct : (x l : ℕ) → ((told r ≡ refused x l) ↔ CorrectionRefuses s input (A at p) c table (length work) x l)
+  pub demand-1-correct : (x l : ℕ) → ((told r ≡ refused x l) ↔ CorrectionRefuses s old input (A at p) c table (length work) x l)
       × (told r ≡ refused x l → (table′ ≡ table) × (work′ ≡ work))
-  demand-1-correct x l = (promised.refused-exactly s input A p c table work table′ work′ r promise x l, promised.then-unchanged s input A p c table work table′ work′ r promise x l)
+  demand-1-correct x l = (promised.refused-exactly s old input A p c table work table′ work′ r promise x l, promised.then-unchanged s old input A p c table work table′ work′ r promise x l)
 
-  -- Demand 3, from a kept table of an entry that differs at c at most, of any question that is not refused, where c is the position of a byte.
-  pub demand-3-correct : (g : Grammar) → handed s (questionOf input (A at p) (length table) (length work)) ≡ accepted g → c < length input → KeptBefore input c table g
+  -- Demand 3, from a kept table of the old entry, of any question that is not refused, where c is the position of a byte and the two entries do not differ
+  -- elsewhere: no correction is refused but under 18, 21 and what refuses the question.
+  pub demand-3-correct : (g : Grammar) → handed s (questionOf input (A at p) (length table) (length work)) ≡ accepted g → c < length input
+      → differsElsewhere c old input ≡ false → KeptTable (g .rule) (g .variables) old table
       → (a : Reply) × (told r ≡ accepted a) × Demand3Kept s input (A at p) g (retained (c + 1) (length input) table) table′ a
-  demand-3-correct g accepts below kept =
+  demand-3-correct g accepts below same kept =
       let reads = handed-sheet s (questionOf input (A at p) (length table) (length work)) g accepts in
-      let call = promised.correction s input A p c table work g (promised.kept-accepted s input A p c table work g reads kept accepts below) table′ work′ r promise in
+      let call = promised.correction s old input A p c table work g (promised.kept-accepted s old input A p c table work g reads kept accepts below same) table′ work′ r promise in
       (call .replies, call .accepts, demanded-kept s input A p (length table) (length work) g accepts (call .from-kept kept))
 
 -- ---- The further question.
@@ -106,7 +110,19 @@ pub opening-kept : (s input table table′ work work′ : List ℕ) (r : Prefix)
 opening-kept s input table table′ work work′ r promise g e =
     asked (start-within s g (handed-sheet s _ g e)) (subst (λ (o : Checked Grammar). Finds o input table table′ work work′ (opening.told r)) e promise .2 .leaves)
 
--- ---- Each marked case, as a further question over a blank table: it is answered as document 01 says.
+-- ---- Each marked case over a kept table: it is answered as document 01 says,
+
+pub case-replied : (c : Case) (m : List·Memᴰ c cases) {v : ℕ} {start : Pair → ℕ × ℕ} {table table′ : List ℕ} {a : Reply}
+    → (k : KeptAnswers (cases-hold c m .grammar .rule) v (c .input) (1 at 0) start table table′ a) → a ≡ reply (c .outcome) (c .named) (k .count)
+case-replied c m k =
+    let h = cases-hold c m in
+    let rule = h .grammar .rule in
+    let o : k .outcome ≡ c .outcome = has-one rule (c .input) (1 at 0) (k .outcome) (c .outcome) (k .has) (h .has) in
+    let z : k .named ≡ c .named =
+    named-one rule (c .input) (1 at 0) (k .named) (c .named) (c .outcome) (subst (λ (u : Outcome). Named rule (c .input) (1 at 0) u (k .named)) o (k .names)) (h .names) in
+    k .says ∙ rw (o, z)
+
+-- and as a further question over a blank one with the same count.
 
 pub further-case : (c : Case) → List·Memᴰ c cases → (table table′ work work′ : List ℕ) (r : Answer)
     → 2 * cells (grammarOf (text (c .lines)) .variables) (length (c .input)) ≤ length table
@@ -126,8 +142,4 @@ further-case c m table table′ work work′ r e f empty promise =
     let closed = sheet-closed s g (handed-sheet s _ g accepts) in
     let within = handed-pair s (questionOf (c .input) (1 at 0) (length table) (length work)) g accepts (1 at 0) refl in
     let counts = new-all (g .rule) (c .input) (g .variables) (k .leaves) closed within (λ B q w. ap (λ (j : ℕ × ℕ). j .0) (none B q w)) (k .counts) in
-    let o : k .outcome ≡ c .outcome = has-one (g .rule) (c .input) (1 at 0) (k .outcome) (c .outcome) (k .has) (h .has) in
-    let z : k .named ≡ c .named =
-    named-one (g .rule) (c .input) (1 at 0) (k .named) (c .named) (c .outcome) (subst (λ (u : Outcome). Named (g .rule) (c .input) (1 at 0) u (k .named)) o (k .names)) (h .names) in
-    let n : k .count ≡ c .count = number-one counts (h .counts) in
-    call .accepts ∙ ap accepted (k .says ∙ rw (o, z, n))
+    call .accepts ∙ ap accepted (case-replied c m k ∙ ap (reply (c .outcome) (c .named)) (number-one counts (h .counts)))

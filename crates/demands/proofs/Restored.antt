@@ -1,5 +1,6 @@
 -- A table that was stored by position and restored (document 02, order 9) serves like the one that was kept: demand 3 of what is asked over it, and every
 -- marked case. Assumes nothing.
+use mathlib.Core.Bool.{false}
 use mathlib.Core.List.{List, List·Memᴰ}
 use mathlib.Core.Path.{_≡_, sym, ap, _∙_, subst}
 use Prim.Native.Nat.{ℕ, _+_, _*_, _≤_, _<_}
@@ -18,11 +19,12 @@ use Rattle.finish.specs.Reply.{Reply, told}
 use Rattle.finish.specs.declared.Answer.{Answer}
 use Rattle.memo.specs.Answer.{QuestionPromise}
 use Rattle.memo.proofs.Promised.{case-accepted}
+use Rattle.kept.specs.Differs.{differsElsewhere}
 use Rattle.kept.specs.Kept.{retained, KeptTable}
 use Rattle.archive.specs.StoredTable.{RoundTrip}
 use Rattle.archive.proofs.Kept.{restored-kept, restored-length}
 use Rattle.correction.specs.Call.{Alike}
-use Rattle.correction.specs.Correction.{KeptBefore, CorrectionPromise}
+use Rattle.correction.specs.Correction.{CorrectionPromise}
 use Rattle.correction.specs.Further.{FurtherPromise}
 use Rattle.correction.proofs.Promised.{question-kept}
 use Rattle.correction.proofs.Shared.{shared-table}
@@ -42,19 +44,14 @@ pub demand-3-restored : (s input : List ℕ) (A p : ℕ) (table restored work ta
 demand-3-restored s input A p table restored work table′ work′ r promise g accepts kept trip =
     demand-3-further s input A p restored work table′ work′ r promise g accepts (again-kept s g (handed-sheet s _ g accepts) input table restored kept trip)
 
--- and of a correction.
-pub demand-3-restored-correct : (s input : List ℕ) (A p c : ℕ) (table restored work table′ work′ : List ℕ) (r : Answer)
-    → CorrectionPromise s input A p c restored table′ work work′ r
-    → (g : Grammar) → handed s (questionOf input (A at p) (length restored) (length work)) ≡ accepted g → c < length input
-    → KeptBefore input c table g → RoundTrip (g .variables) (length input) table restored
+-- and of a correction, over what is restored of a table of the old entry.
+pub demand-3-restored-correct : (s old input : List ℕ) (A p c : ℕ) (table restored work table′ work′ : List ℕ) (r : Answer)
+    → CorrectionPromise s old input A p c restored table′ work work′ r
+    → (g : Grammar) → handed s (questionOf input (A at p) (length restored) (length work)) ≡ accepted g → c < length input → differsElsewhere c old input ≡ false
+    → KeptTable (g .rule) (g .variables) old table → RoundTrip (g .variables) (length old) table restored
     → (a : Reply) × (told r ≡ accepted a) × Demand3Kept s input (A at p) g (retained (c + 1) (length input) restored) table′ a
-demand-3-restored-correct s input A p c table restored work table′ work′ r promise g accepts below kept trip =
-    demand-3-correct s input A p c restored work table′ work′ r promise g accepts below (
-      kept .0,
-      kept .1,
-      again-kept s g (handed-sheet s _ g accepts) (kept .0) table restored (kept .2)
-          (subst (λ (n : ℕ). RoundTrip (g .variables) n table restored) (kept .1 .size) trip),
-    )
+demand-3-restored-correct s old input A p c table restored work table′ work′ r promise g accepts below same kept trip =
+    demand-3-correct s old input A p c restored work table′ work′ r promise g accepts below same (again-kept s g (handed-sheet s _ g accepts) old table restored kept trip)
 
 -- Each marked case, asked, stored, restored, and asked further: the same outcome and named pair again, which `case-answered` of memo gives.
 pub restored-case : (c : Case) → List·Memᴰ c cases → (table table′ work work′ : List ℕ) (r : Answer)

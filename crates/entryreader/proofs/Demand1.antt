@@ -228,23 +228,23 @@ module _ {Promise : Answer → Type 0} {answer answer′ : List ℕ} {r : ℕ} (
       let e = returned-unchanged (told (numbers .found)) questionNumbers answer answer′ r (numbers .returns) (numbers .reports) d in
       (then-unchanged (e .0) (e .1) (e .2), e .3)
 
-module _ (s input : List ℕ) (A p c : ℕ) (table table′ work work′ answer answer′ : List ℕ) (r : ℕ)
-    (promise : CorrectionNumbers s input A p c table table′ work work′ answer answer′ r) where
-  correction-exactly : (x l : ℕ) → (told (promise .found) ≡ refused x l) ↔ CorrectionRefuses s input (A at p) c table (length work) x l
-  correction-exactly = promised.refused-exactly s input A p c table work table′ work′ (promise .found) (promise .promise)
+module _ (s old input : List ℕ) (A p c : ℕ) (table table′ work work′ answer answer′ : List ℕ) (r : ℕ)
+    (promise : CorrectionNumbers s old input A p c table table′ work work′ answer answer′ r) where
+  correction-exactly : (x l : ℕ) → (told (promise .found) ≡ refused x l) ↔ CorrectionRefuses s old input (A at p) c table (length work) x l
+  correction-exactly = promised.refused-exactly s old input A p c table work table′ work′ (promise .found) (promise .promise)
 
   -- 100 plus x exactly under the condition of x,
-  pub correction-refused : (x : ℕ) → (r ≡ 100 + x) ↔ ((l : ℕ) × CorrectionRefuses s input (A at p) c table (length work) x l)
-  correction-refused = returned-refused (told (promise .found)) (CorrectionRefuses s input (A at p) c table (length work)) correction-exactly (promise .returns)
+  pub correction-refused : (x : ℕ) → (r ≡ 100 + x) ↔ ((l : ℕ) × CorrectionRefuses s old input (A at p) c table (length work) x l)
+  correction-refused = returned-refused (told (promise .found)) (CorrectionRefuses s old input (A at p) c table (length work)) correction-exactly (promise .returns)
 
   -- 0 else,
-  pub correction-answered : (r ≡ 0) ↔ ((x l : ℕ) → ¬ CorrectionRefuses s input (A at p) c table (length work) x l)
-  correction-answered = returned-answered (told (promise .found)) (CorrectionRefuses s input (A at p) c table (length work)) correction-exactly (promise .returns)
+  pub correction-answered : (r ≡ 0) ↔ ((x l : ℕ) → ¬ CorrectionRefuses s old input (A at p) c table (length work) x l)
+  correction-answered = returned-answered (told (promise .found)) (CorrectionRefuses s old input (A at p) c table (length work)) correction-exactly (promise .returns)
 
   -- and under a refusal table, work slice and answer are as they were.
   pub correction-unchanged : r ≢ 0 → (table′ ≡ table) × (work′ ≡ work) × (answer′ ≡ answer)
   correction-unchanged d =
-      let k = answer-unchanged promise (promised.then-unchanged s input A p c table work table′ work′ (promise .found) (promise .promise)) d in
+      let k = answer-unchanged promise (promised.then-unchanged s old input A p c table work table′ work′ (promise .found) (promise .promise)) d in
       (k .0 .0, k .0 .1, k .1)
 
 module _ (s input : List ℕ) (A p : ℕ) (table table′ work work′ answer answer′ : List ℕ) (r : ℕ)

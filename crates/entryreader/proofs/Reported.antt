@@ -18,8 +18,9 @@ use Rattle.finish.specs.declared.Answer.{Answer}
 use Rattle.memo.proofs.Promised.{one-result}
 use Rattle.kept.specs.Kept.{retained}
 use Rattle.correction.specs.Call as call
-use Rattle.correction.specs.Correction.{KeptBefore, CorrectionPromise}
-use Rattle.correction.specs.Further.{KeptOf, FurtherPromise}
+use Rattle.correction.specs.Call.{KeptOf}
+use Rattle.correction.specs.Correction.{CorrectionPromise}
+use Rattle.correction.specs.Further.{FurtherPromise}
 use Rattle.correction.specs.Refusals.{correctionCondition, correctionOrder, correctable, furtherCondition, furtherOrder, askable}
 use Rattle.correction.proofs.Refusing.{call-small, question-accepted, correction-late, further-late}
 use Rattle.reports.specs.Numbers.{replyCode, questionNumbers}
@@ -48,12 +49,12 @@ call-fits found input x Kept start table table′ work work′ t small short pro
     by-sheet (refused y l) e m = subst (Fits replyCode) (sym (m .0)) (small y l e)
     by-sheet (accepted g) e m = let few = short g e in subst (Fits replyCode) (sym (m .accepts)) (omega (arith, m .small))
 
-pub correction-fits : (s input : List ℕ) (A p c : ℕ) (table table′ work work′ : List ℕ) (r : Answer) → CorrectionPromise s input A p c table table′ work work′ r
+pub correction-fits : (s old input : List ℕ) (A p c : ℕ) (table table′ work work′ : List ℕ) (r : Answer) → CorrectionPromise s old input A p c table table′ work work′ r
     → Fits replyCode (told r)
-correction-fits s input A p c table table′ work work′ r promise =
-    let own = correctionCondition input c table in
-    call-fits (correctable s input (A at p) c table (length work)) input (A at p) (KeptBefore input c table) (retained (c + 1) (length input) table) table table′ work work′ (told r)
-    (call-small s input (A at p) (length table) (length work) own correctionOrder 26 (omega arith) (omega arith, (omega arith, tt)))
+correction-fits s old input A p c table table′ work work′ r promise =
+    let own = correctionCondition old input c table in
+    call-fits (correctable s old input (A at p) c table (length work)) input (A at p) (KeptOf old table) (retained (c + 1) (length input) table) table table′ work work′ (told r)
+    (call-small s input (A at p) (length table) (length work) own correctionOrder 26 (omega arith) (omega arith, (omega arith, (omega arith, tt))))
     (λ g e. handed-input s _ g (question-accepted s input (A at p) (length table) (length work) own correctionOrder correction-late g e)) promise
 
 pub further-fits : (s input : List ℕ) (A p : ℕ) (table table′ work work′ : List ℕ) (r : Answer) → FurtherPromise s input A p table table′ work work′ r → Fits replyCode (told r)

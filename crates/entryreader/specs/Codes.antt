@@ -72,8 +72,8 @@ abbrev pub QuestionNumbers : List ℕ → List ℕ → ℕ → ℕ → List ℕ 
 QuestionNumbers sheet input A p table table′ work work′ answer answer′ r = AnswerNumbers (QuestionPromise sheet input A p table table′ work work′) answer answer′ r
 
 -- Here the count is of newly decided cells.
-abbrev pub CorrectionNumbers : List ℕ → List ℕ → ℕ → ℕ → ℕ → List ℕ → List ℕ → List ℕ → List ℕ → List ℕ → List ℕ → ℕ → Type 0
-CorrectionNumbers sheet input A p c table table′ work work′ answer answer′ r = AnswerNumbers (CorrectionPromise sheet input A p c table table′ work work′) answer answer′ r
+abbrev pub CorrectionNumbers : List ℕ → List ℕ → List ℕ → ℕ → ℕ → ℕ → List ℕ → List ℕ → List ℕ → List ℕ → List ℕ → List ℕ → ℕ → Type 0
+CorrectionNumbers sheet old input A p c table table′ work work′ answer answer′ r = AnswerNumbers (CorrectionPromise sheet old input A p c table table′ work work′) answer answer′ r
 
 abbrev pub FurtherNumbers : List ℕ → List ℕ → ℕ → ℕ → List ℕ → List ℕ → List ℕ → List ℕ → List ℕ → List ℕ → ℕ → Type 0
 FurtherNumbers sheet input A p table table′ work work′ answer answer′ r = AnswerNumbers (FurtherPromise sheet input A p table table′ work work′) answer answer′ r

@@ -112,11 +112,12 @@ pub extern "C" fn entryreader_question(
     report(found, answer)
 }
 
-// A question about an input of which the byte at c was corrected, over a table that was kept of the input before: as the
+// A question about an input of which the byte at c was corrected, over a table that was kept of the old input: as the
 // question, with the count of newly decided cells.
 #[no_mangle]
 pub extern "C" fn entryreader_correct(
     sheet: &[u8],
+    old: &[u8],
     input: &[u8],
     variable: u32,
     position: u32,
@@ -125,9 +126,9 @@ pub extern "C" fn entryreader_correct(
     work: &mut [u32],
     answer: &mut [u32; 4],
 ) -> u32
-    ensures { λ r. ⌜ CorrectionNumbers (now (sheet .entry)) (now (input .entry)) variable position c (now (table .entry)) (now (table .exit)) (now (work .entry)) (now (work .exit)) (now (answer .entry)) (now (answer .exit)) r ⌝ }
+    ensures { λ r. ⌜ CorrectionNumbers (now (sheet .entry)) (now (old .entry)) (now (input .entry)) variable position c (now (table .entry)) (now (table .exit)) (now (work .entry)) (now (work .exit)) (now (answer .entry)) (now (answer .exit)) r ⌝ }
 {
-    let found = correction::correct(sheet, input, variable, position, c, table, work);
+    let found = correction::correct(sheet, old, input, variable, position, c, table, work);
     report(found, answer)
 }
 

@@ -16,8 +16,10 @@ use Rattle.schema.specs.Cells.{heldAt, reachAt, cellAt}
 use Rattle.schema.specs.Derivation.{_at_}
 use Rattle.schema.specs.Table.{cells}
 use Rattle.kept.specs.Kept.{stays, kept, retained}
-use Rattle.kept.specs.Range.{outOfRange, some, cellsOut}
-use Rattle.kept.proofs.Ranged.{some-none, some-one, some-more, range-low}
+use Rattle.kept.specs.Range.{outOfRange, cellsOut}
+use Rattle.kept.specs.Some.{some}
+use Rattle.kept.proofs.Ranged.{range-low}
+use Rattle.kept.proofs.Some.{some-none, some-one, some-more}
 use Rattle.passes.specs.Passes.{BlankIf, EndBlankIf, rowOut, Unchanged, Looked, Firsts, FirstsUnless}
 use Rattle.passes.proofs.Rows.{next-row}
 

@@ -9,7 +9,8 @@ use Rattle.schema.specs.Cells.{cellAt}
 use Rattle.schema.specs.Derivation.{Pair, _at_}
 use Rattle.schema.specs.Table.{Within, cells, contents}
 use Rattle.kept.specs.Kept.{kept}
-use Rattle.kept.specs.Range.{outOfRange, some}
+use Rattle.kept.specs.Range.{outOfRange}
+use Rattle.kept.specs.Some.{some}
 
 -- Few variables, a short input, a limit that is one of its positions, and room for all cells.
 pub record PassReady (v n limit : ℕ) (T : List ℕ) : Type 0 where

@@ -12,20 +12,23 @@
 //     task 2, reading     a table of x numbers, a work slice and an output of y bytes are lent; what is written is then checked
 //     task 3, damage      a reading is written, its byte at x is made y, and it is checked
 //     task 4, kept        as task 0, and the entry and the table are kept
-//     task 5, correction  the byte at x of the kept entry is made y modulo 256, and the question is asked as a correction at x; y / 256
-//                         numbers of the kept table and a work slice are lent
+//     task 5, correction  the byte at x of the kept entry is made y modulo 256, and the question is asked as a correction at x, with the kept
+//                         entry as it was before; y / 256 numbers of the kept table and a work slice are lent
 //     task 6, put         the number at x of the kept table is made y; nothing is asked
 //     task 7, opening     as task 0, but for the opening that already loops, at the start variable and place 0
 //     task 8, further     a further question about the kept entry; x numbers of the kept table and a work slice of y numbers are lent
 //     task 9, blank       as task 4, but nothing is asked: the kept table is blank
 //     task 10, store      x numbers of the kept table are stored by place in y numbers of the stored table; the variable is V, the place n
 //     task 11, restore    x numbers of the stored table are taken back into y numbers of the kept table, with the same V and n
+//     task 12, shown      a correction at x modulo 8192 of the first x / 8192 bytes of the kept entry, none of which is changed, with the
+//                         request's entry as the old one; y / 256 numbers of the kept table and a work slice are lent
+//     task 13, edit       the byte at x of the kept entry is made y; nothing is asked
 //
-// A cell is two numbers of a table and one of a work slice: with tasks 2 and 5 the work slice has half as many numbers as the table, rounded
-// up. What is kept lasts until the next task 4 or 9, so that corrections and further questions follow one another. They take as many bytes of
-// the kept entry as the request's entry has; where x of a correction is not below that number, no byte is changed and the call is made all the
-// same. The stored table lasts until the next task 10. Behind a task 11 that is not refused the kept table holds what was stored; behind one
-// that is refused, what it was filled with.
+// A cell is two numbers of a table and one of a work slice: with tasks 2, 5 and 12 the work slice has half as many numbers as the table,
+// rounded up. What is kept lasts until the next task 4 or 9, so that corrections and further questions follow one another. Tasks 5 and 8 take
+// as many bytes of the kept entry as the request's entry has; where x of task 5 is not below that number, no byte is changed and the call is
+// made all the same. The stored table lasts until the next task 10. Behind a task 11 that is not refused the kept table holds what was stored;
+// behind one that is refused, what it was filled with.
 //
 // An answer is a line of seven fields of 8 columns and byte 10. The first is the number of the request's line, the second is
 //
@@ -42,6 +45,7 @@
 //     10, blank      five zeros
 //     11, store      code, refusal number, refused line, 0, sum of the lent stored table
 //     12, restore    code, refusal number, refused line, 0, sum of the lent kept table
+//     13, edit       three zeros, the byte that stood there before, and 0
 //
 // The codes: 0 success or done, 1 failure, 2 loop, 3 missing, 4 end, 6 spent, 7 no frame, 8 no opening, 9 refused. Table and output are filled
 // before each call but a correction and a further question, so that their sums also show what a call must leave unchanged; of two tables the
@@ -422,25 +426,26 @@ fn set_byte(entry: &mut [u8], at: usize, byte: u8) {
     }
 }
 
-// Task 5, with the lent slices.
+// A correction at x, with the lent slices.
 fn correct(
     number: u32,
     sheet: &[u8],
-    entry: &mut [u8],
+    old: &[u8],
+    entry: &[u8],
     r: Request,
     table: &mut [u32],
     work: &mut [u32],
 ) {
-    set_byte(entry, r.x as usize, (r.y % 256) as u8);
-    let answer = correction::correct(sheet, entry, r.variable, r.position, r.x, table, work);
+    let answer = correction::correct(sheet, old, entry, r.variable, r.position, r.x, table, work);
     print_outcome(number, 6, answer, table);
 }
 
-// Task 5.
+// A correction at x.
 fn run_correction(
     number: u32,
     sheet: &[u8],
-    entry: &mut [u8],
+    old: &[u8],
+    entry: &[u8],
     r: Request,
     kept_table: &mut [u32],
     work: &mut [u32],
@@ -456,11 +461,77 @@ fn run_correction(
     correct(
         number,
         sheet,
+        old,
         entry,
         r,
         &mut kept_table[0..lent],
         &mut work[0..cells],
     );
+}
+
+// Task 5: the entry as it was is shown.
+fn run_change(
+    number: u32,
+    sheet: &[u8],
+    entry: &mut [u8],
+    r: Request,
+    kept_table: &mut [u32],
+    work: &mut [u32],
+) {
+    let mut old = [0u8; 4097];
+    let length = entry.len();
+    if old.len() < length {
+        return print_fault(number);
+    }
+    bytes::copy(entry, &mut old);
+    set_byte(entry, r.x as usize, (r.y % 256) as u8);
+    run_correction(number, sheet, &old[0..length], entry, r, kept_table, work);
+}
+
+// Task 12.
+fn run_shown(
+    number: u32,
+    sheet: &[u8],
+    old: &[u8],
+    r: Request,
+    kept_entry: &[u8],
+    kept_table: &mut [u32],
+    work: &mut [u32],
+) {
+    let length = (r.x / 8192) as usize;
+    if kept_entry.len() < length {
+        return print_fault(number);
+    }
+    let at = Request {
+        variable: r.variable,
+        position: r.position,
+        task: r.task,
+        x: r.x % 8192,
+        y: r.y,
+    };
+    run_correction(
+        number,
+        sheet,
+        old,
+        &kept_entry[0..length],
+        at,
+        kept_table,
+        work,
+    );
+}
+
+// Task 13.
+fn run_edit(number: u32, r: Request, kept_entry: &mut [u8]) {
+    let x = r.x as usize;
+    if kept_entry.len() <= x {
+        return print_fault(number);
+    }
+    if 255 < r.y {
+        return print_fault(number);
+    }
+    let before = wide(kept_entry[x]);
+    kept_entry[x] = r.y as u8;
+    print_answer(number, 13, Four(0, 0, 0, before), 0);
 }
 
 // Tasks 5 and 8, on so many bytes of the kept entry.
@@ -479,7 +550,7 @@ fn run_over(
     let entry = &mut kept_entry[0..length];
     let task = r.task;
     match task {
-        5 => run_correction(number, sheet, entry, r, kept_table, work),
+        5 => run_change(number, sheet, entry, r, kept_table, work),
         _ => run_question(number, sheet, entry, r, kept_table, work),
     }
 }
@@ -587,6 +658,8 @@ fn run(
         6 => run_put(number, r, kept_table),
         10 => run_archive(number, r, kept_table, stored_table),
         11 => run_archive(number, r, stored_table, kept_table),
+        12 => run_shown(number, sheet, entry, r, kept_entry, kept_table, &mut work),
+        13 => run_edit(number, r, kept_entry),
         _ => run_fresh(number, sheet, entry, r, &mut work),
     }
 }

@@ -8,9 +8,9 @@ correct-requires c κs = search needs
 
 report-requires : tie.Need-report-requires
 report-requires c κs =
-    let a = c .before .before .before .before .before .before .before .before .before .before .before .before .args in
+    let a = c .before .before .before .before .before .before .before .before .before .before .before .before .before .args in
     let q = c .before .before .before .before .before .correct in
-    correction-fits (a .sheet .now) (a .input .now) (a .variable) (a .position) (a .c) (a .table .now) (q .last .1 .1 .1 .1 .1 .0) (a .work .now) (q .last .1 .1 .1 .1 .1 .1 .0) (q .result) (q .ensures)
+    correction-fits (a .sheet .now) (a .old .now) (a .input .now) (a .variable) (a .position) (a .c) (a .table .now) (q .last .1 .1 .1 .1 .1 .1 .0) (a .work .now) (q .last .1 .1 .1 .1 .1 .1 .1 .0) (q .result) (q .ensures)
 
 same-length : tie.Need-same-length
 same-length c = search needs

@@ -2,8 +2,8 @@ use Rattle.correction.proofs.AskedFurther.{refused-first, refused-small
 use Rattle.memo.proofs.Questioned.{in-bounds}
 use mathlib.Core.Path.{refl}
 use borrow.Author.Needs.{needs}
-use Rattle.correction.proofs.further.Statement.{statement}
-use Rattle.correction.proofs.further.Tie as tie
+use Rattle.correction.proofs.unchanged.further.Statement.{statement}
+use Rattle.correction.proofs.unchanged.further.Tie as tie
 
 admit-requires : tie.Need-admit-requires
 admit-requires c κs = search needs

@@ -1,0 +1,2 @@
+-- Why the comparison finds what differs.
+pub mod Comparing
