@@ -77,13 +77,17 @@ uint32_t entryreader_question(
     uint32_t (*answer)[4]);
 
 /*
- * The question about an input of which the byte at c was corrected, over a kept table of the input before: a blank one, one that a question left, or
- * one that this call or entryreader_further left over a kept one. Retained are its cells at positions above c, and each success or failure whose reach
- * is at most c. Returns as entryreader_question does, with the count of newly decided cells; the refusals are those of the question, 18 and 19 (a retained
- * cell with an outcome over 5 + n, a success that ends left of its place, or a success or a failure whose reach is below its place).
+ * The question about an input of which the byte at c was corrected, over a kept table of the old input: a blank one, one that a question left, or one
+ * that this call or entryreader_further left over a kept one. Retained are its cells at positions above c, and each success or failure whose reach is
+ * at most c. Returns as entryreader_question does, with the count of newly decided cells. The refusals are those of the question, about input alone; then
+ * 18 (c is not below n), 21 (old and input differ in length, or at a position other than c) and 19 (a retained cell with an outcome over 5 + n, a success
+ * that ends left of its place, or a success or a failure whose reach is below its place). Whether the table is of old and this sheet is not tested.
+ *
+ * Since order 10 old is handed over too: a program that was compiled without it has to be changed.
  */
 uint32_t entryreader_correct(
     const uint8_t *sheet, size_t sheet_length,
+    const uint8_t *old, size_t old_length,
     const uint8_t *input, size_t input_length,
     uint32_t variable, uint32_t position, uint32_t c,
     uint32_t *table, size_t table_length,

@@ -57,6 +57,8 @@ unsafe extern "C" {
     fn entryreader_correct(
         sheet: *const u8,
         sheet_length: usize,
+        old: *const u8,
+        old_length: usize,
         input: *const u8,
         input_length: usize,
         variable: u32,
@@ -230,6 +232,7 @@ pub fn question(
 #[allow(clippy::too_many_arguments)] // Those of the exported call.
 pub fn correct(
     sheet: &[u8],
+    old: &[u8],
     entry: &[u8],
     variable: u32,
     position: u32,
@@ -238,11 +241,13 @@ pub fn correct(
     work: &mut [u32],
     answer: &mut [u32; 4],
 ) -> u32 {
-    // SAFETY: the call has no precondition; it reads the first two slices, and writes inside the three that are lent exclusively.
+    // SAFETY: the call has no precondition; it reads the first three slices, and writes inside the three that are lent exclusively.
     unsafe {
         entryreader_correct(
             sheet.as_ptr(),
             sheet.len(),
+            old.as_ptr(),
+            old.len(),
             entry.as_ptr(),
             entry.len(),
             variable,

@@ -3,8 +3,9 @@
 //!
 //! After a refusal everything lent is as it was.
 //!
-//! A table is kept, of a sheet and an entry, where it is blank, where [`question`] left it, or where [`further`] or [`correct`] left it over a kept one;
-//! [`judge`], [`opening`] and [`write()`] leave the table of the question that they ask. [`store`] and [`restore`] take a table to an archive and back.
+//! A table is kept, of a sheet and an entry, where it is blank, where [`question`] left it, where [`further`] left it over a kept one, or where
+//! [`correct`] left it over a kept one of the old entry; [`judge`], [`opening`] and [`write()`] leave the table of the question that they ask. [`store`]
+//! and [`restore`] take a table to an archive and back.
 //!
 //! ```
 //! use entryreader::{Answer, lent};
@@ -166,13 +167,17 @@ pub fn question(
     Answer::from_numbers(code, numbers)
 }
 
-/// The outcome of a variable at a position of an entry of which the byte at `c` was corrected, over a kept table of the entry before; `cells` is the
-/// count of newly decided cells. [`Reader::correct`](crate::Reader::correct) keeps entry and table itself.
+/// The outcome of a variable at a position of an entry of which the byte at `c` was corrected, over a kept table of the `old` entry; `cells` is the count
+/// of newly decided cells. Since order 10 the old entry is handed over too: calls that were written before have to be changed.
+/// [`Reader::correct`](crate::Reader::correct) keeps entry and table itself.
 ///
-/// Cells at positions up to `c` are blanked, unless they hold a success or a failure whose reach is at most `c`; the others are retained. The answer
-/// is then the one that a fresh table gives, and afterwards a cell is not blank where it was retained so or its pair is reached, and holds its pair's
-/// outcome and reach: the table is a kept one of the corrected entry. From any other table nothing is promised but that the call ends within its slices.
-/// Later numbers of both slices are unchanged.
+/// It is refused (21) where the two entries differ in length or at a position other than `c`; at `c` they may differ or not. That comes behind 18 and
+/// before 19, and 6 is about the corrected entry only. Whether the table is of the old entry and this sheet is not tested.
+///
+/// Cells at positions up to `c` are blanked, unless they hold a success or a failure whose reach is at most `c`; the others are retained. Over a kept
+/// table of the old entry and this sheet the answer is then the one that a fresh table gives, and afterwards a cell is not blank where it was retained so
+/// or its pair is reached, and holds its pair's outcome and reach: the table is a kept one of the corrected entry. From any other table nothing is
+/// promised but that the call ends within its slices, or is refused (19) for a retained cell. Later numbers of both slices are unchanged.
 ///
 /// ```
 /// use entryreader::{Answer, lent::{correct, question}};
@@ -186,13 +191,21 @@ pub fn question(
 /// let (mut table, mut work) = ([0; 18], [0; 9]);
 /// assert_eq!(question(sheet, b"6.", 1, 0, &mut table, &mut work)?, Answer::Success { end: 2, cells: 3 });
 /// // The byte at 0 is a 9, after all: the full stop behind it is not read again.
-/// assert_eq!(correct(sheet, b"9.", 1, 0, 0, &mut table, &mut work)?, Answer::Success { end: 2, cells: 2 });
-/// // The byte at 1 is a comma: the digit before it is not read again.
-/// assert_eq!(correct(sheet, b"9,", 1, 0, 1, &mut table, &mut work)?, Answer::Failure { cells: 2 });
+/// let answer = correct(sheet, b"6.", b"9.", 1, 0, 0, &mut table, &mut work)?;
+/// assert_eq!(answer, Answer::Success { end: 2, cells: 2 });
+/// // The byte at 1 is a comma. With 0 named for it the full stop would stay in the table: it is refused, and the table is as it was.
+/// let before = table;
+/// let error = correct(sheet, b"9.", b"9,", 1, 0, 0, &mut table, &mut work).unwrap_err();
+/// assert_eq!((error.number(), table), (21, before));
+/// // With 1 named the digit before it is not read again.
+/// let answer = correct(sheet, b"9.", b"9,", 1, 0, 1, &mut table, &mut work)?;
+/// assert_eq!(answer, Answer::Failure { cells: 2 });
 /// # Ok::<(), entryreader::Error>(())
 /// ```
+#[allow(clippy::too_many_arguments)] // Those of the exported call.
 pub fn correct(
     sheet: &[u8],
+    old: &[u8],
     entry: &[u8],
     variable: u32,
     position: u32,
@@ -203,6 +216,7 @@ pub fn correct(
     let mut numbers = [0; 4];
     let code = calls::correct(
         sheet,
+        old,
         entry,
         variable,
         position,

@@ -180,8 +180,9 @@ impl Reader {
         if let Some(corrected) = entry.get_mut(calls::length(c)) {
             *corrected = byte;
         }
+        let (sheet, old) = (&self.sheet, &self.entry);
         let (table, work) = (&mut self.table, &mut self.work);
-        let answer = lent::correct(&self.sheet, &entry, variable, position, c, table, work)?;
+        let answer = lent::correct(sheet, old, &entry, variable, position, c, table, work)?;
         self.entry = entry;
         Ok(answer)
     }

@@ -21,7 +21,7 @@ pub enum Refusal {
     RuleVariable,
     /// 5: the kind of a sheet line is over 4, or its operands do not fit.
     Rule,
-    /// 6: the entry has over 4,096 bytes; of a table that is stored or restored: n is over 4,096.
+    /// 6: the entry, of a correction the corrected one, has over 4,096 bytes; of a table that is stored or restored: n is over 4,096.
     LongEntry,
     /// 7, of a verdict and its opening only: the endmarker is not the entry's last byte, or stands earlier too.
     Endmarker,
@@ -54,11 +54,13 @@ pub enum Refusal {
     Cell,
     /// 20, of a table that is stored or restored: it or the one that it goes to has fewer than twice V times (n + 1) numbers.
     Tables,
+    /// 21, of a correction: the old entry and the corrected one differ in length, or at a position other than the corrected byte's.
+    Entries,
 }
 
 impl Refusal {
     /// In the order of their numbers, from 1 on.
-    const ALL: [Refusal; 20] = [
+    const ALL: [Refusal; 21] = [
         Refusal::NotLines,
         Refusal::Field,
         Refusal::Header,
@@ -79,9 +81,10 @@ impl Refusal {
         Refusal::Corrected,
         Refusal::Cell,
         Refusal::Tables,
+        Refusal::Entries,
     ];
 
-    /// The refusal of a number from 1 to 20.
+    /// The refusal of a number from 1 to 21.
     ///
     /// ```
     /// use entryreader::Refusal;
@@ -95,7 +98,7 @@ impl Refusal {
             .find(|refusal| refusal.number() == number)
     }
 
-    /// Its number, from 1 to 20.
+    /// Its number, from 1 to 21.
     ///
     /// ```
     /// use entryreader::Refusal;
@@ -153,6 +156,9 @@ impl Refusal {
                 "a cell of the table holds what no question about this entry leaves there"
             }
             Refusal::Tables => "one of the two tables has fewer than twice V times (n + 1) numbers",
+            Refusal::Entries => {
+                "the old entry and the corrected one differ in length, or at a position other than the corrected byte's"
+            }
         }
     }
 

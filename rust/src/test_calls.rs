@@ -70,15 +70,16 @@ pub use crate::calls::opening;
 /// ```
 pub use crate::calls::question;
 
-/// The correction, with the question's numbers; the count is that of newly decided cells:
+/// The correction of an old entry, with the question's numbers; the count is that of newly decided cells:
 ///
 /// ```
 /// use entryreader::test_calls::correct;
 ///
 /// let sheet = b"    1    1   46    0    0\n    1    2   46    0    0\n";
 /// let (mut table, mut work, mut answer) = ([0; 4], [0; 2], [0; 4]);
-/// assert_eq!(correct(sheet, b".", 1, 0, 0, &mut table, &mut work, &mut answer), 0);
+/// assert_eq!(correct(sheet, b",", b".", 1, 0, 0, &mut table, &mut work, &mut answer), 0);
 /// assert_eq!(answer, [6, 0, 0, 1]);
+/// assert_eq!(correct(sheet, b"", b".", 1, 0, 0, &mut table, &mut work, &mut answer), 121);
 /// ```
 pub use crate::calls::correct;
 

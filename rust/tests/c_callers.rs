@@ -271,12 +271,21 @@ impl Printed {
         self.table();
     }
 
+    fn correct(&mut self, name: &str, sheet: &[u8], [old, new]: [&[u8]; 2], c: u32) {
+        let (table, work) = (&mut self.table, &mut self.work);
+        let found = lent::correct(sheet, old, new, 1, 0, c, table, work);
+        self.answer(name, found);
+    }
+
     fn questions(&mut self, sheet: &[u8], entry: &[u8]) {
         self.fill();
         let found = lent::question(sheet, entry, 1, 0, &mut self.table, &mut self.work);
         self.answer("question", found);
-        let found = lent::correct(sheet, entry, 1, 0, 0, &mut self.table, &mut self.work);
-        self.answer("correct", found);
+        let mut other = entry.to_vec();
+        other.iter_mut().take(1).for_each(|byte| *byte ^= 1);
+        self.correct("misplaced", sheet, [entry, &other], 1);
+        self.correct("correct", sheet, [entry, &other], 0);
+        self.correct("corrected back", sheet, [&other, entry], 0);
         let behind = u32::try_from(entry.len()).expect("it is short");
         let found = lent::further(sheet, entry, 1, behind, &mut self.table, &mut self.work);
         self.answer("further", found);
@@ -360,19 +369,28 @@ fn marked_entries_in_c() {
     }
 }
 
-/// Case a asked, and corrected at 0 to what it is: two cells are decided anew, and the table is the same. Further behind its last byte, where a sign is
-/// looked for: two more, which have the end.
+/// Case a asked. Then its sign is a comma: with 1 named for it that is refused, and the table is the same; with 0 named five cells at 0 fail. Then it is
+/// the sign again: two cells are decided anew, and that of 6, which looks at nothing, stays. Further behind its last byte, where a sign is looked for: two
+/// more, which have the end.
 fn cells_of_a() -> String {
     let mut text = String::new();
-    let mut behind = CELLS;
+    let mut comma = CELLS;
+    for (variable, reach) in [(1, 1), (2, 1), (3, 1), (4, 1), (6, 0)] {
+        [comma[variable - 1][0], comma[variable - 1][1]] = [1, reach];
+    }
+    let mut back = CELLS;
+    back[5][0] = 1;
+    let mut behind = back;
     [behind[0][6], behind[1][6]] = [4, 4];
-    for (name, numbers, cells) in [
-        ("question", [8, 0, 0, 5], CELLS),
-        ("correct", [8, 0, 0, 2], CELLS),
-        ("further", [4, 2, 3, 2], behind),
+    for (name, code, numbers, cells) in [
+        ("question", 0, [8, 0, 0, 5], CELLS),
+        ("misplaced", 121, [7; 4], CELLS),
+        ("correct", 0, [1, 0, 0, 5], comma),
+        ("corrected back", 0, [8, 0, 0, 2], back),
+        ("further", 0, [4, 2, 3, 2], behind),
     ] {
         let table = [&cells.concat()[..], &[7; 16]].concat();
-        report(&mut text, name, 0, &numbers);
+        report(&mut text, name, code, &numbers);
         print(&mut text, "table", &table);
     }
     text

@@ -5,17 +5,19 @@ use crate::{Room, asking, proved, society};
 use entryreader::test_calls;
 
 /// Corrections of the byte at c, to what it was: each over the table that the one before left, the first over the question's. The cells that each newly
-/// decides.
+/// decides. The old entry has another byte at c, so that both are passed over whole; what is retained of the table does not hang on that byte.
 fn correcting<'a>(question: &'a Question, c: u32) -> (u32, Subject<'a>) {
     let mut room = Room::new(question);
     let (table, work) = room.slices();
     let said = proved(&question.sheet, &question.entry, table, work);
+    let mut old = question.entry.clone();
+    old[c as usize] ^= 1;
     let mut correct = move |count: usize| {
         let (table, work) = room.slices();
         let mut answer = [0; 4];
         for _ in 0..count {
             let (sheet, entry) = (&question.sheet, &question.entry);
-            let code = test_calls::correct(sheet, entry, 1, 0, c, table, work, &mut answer);
+            let code = test_calls::correct(sheet, &old, entry, 1, 0, c, table, work, &mut answer);
             assert_eq!((code, &answer[..3]), (0, &said[..3]));
         }
         answer[3]

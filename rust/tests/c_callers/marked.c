@@ -2,8 +2,8 @@
  * Puts cases through every exported call, and prints what each returns and the numbers that it leaves.
  *
  * A case on standard input is a rule sheet, or a text of the shorthand, and then an entry, each as its length, a line feed and its bytes. Every question is
- * about variable 1 at 0, but for the further one, which is about variable 1 behind the last byte. What is lent is filled with 7 before. The table that
- * the reading's question leaves is stored, and restored elsewhere.
+ * about variable 1 at 0, but for the further one, which is about variable 1 behind the last byte. The byte at 0 is corrected to another one and back. What
+ * is lent is filled with 7 before. The table that the reading's question leaves is stored, and restored elsewhere.
  */
 #include "entryreader.h"
 #include <stdio.h>
@@ -11,7 +11,7 @@
 
 enum { BYTES = 8192, CELLS = 1024, NUMBERS = 2 * CELLS, SHOWN = 64, LINE = 49 };
 
-static uint8_t sheet[BYTES], entry[BYTES], output[LINE * CELLS];
+static uint8_t sheet[BYTES], entry[BYTES], other[BYTES], output[LINE * CELLS];
 static size_t sheet_length, entry_length;
 static uint32_t table[NUMBERS], stored[NUMBERS], restored[NUMBERS], work[CELLS], words[256], variables;
 
@@ -93,7 +93,17 @@ static void opening(void)
     print("table", table, SHOWN);
 }
 
-/* The question, a correction of the byte at 0 to what it is, and a further question, over one table. */
+/* The correction of an old entry to a new one, with c named for it. */
+static void correct(const char *name, const uint8_t *old, const uint8_t *new, uint32_t c)
+{
+    uint32_t answer[4] = {7, 7, 7, 7};
+    uint32_t returned = entryreader_correct(
+        sheet, sheet_length, old, entry_length, new, entry_length, 1, 0, c, table, NUMBERS, work, CELLS, &answer);
+    report(name, returned, answer, 4);
+    print("table", table, SHOWN);
+}
+
+/* The question; another byte at 0, for which 1 is named first, and the byte that was there; and a further question, all over one table. */
 static void questions(void)
 {
     uint32_t answer[4];
@@ -102,11 +112,11 @@ static void questions(void)
         sheet, sheet_length, entry, entry_length, 1, 0, table, NUMBERS, work, CELLS, &answer);
     report("question", returned, answer, 4);
     print("table", table, SHOWN);
-    fill(answer, 4);
-    returned = entryreader_correct(
-        sheet, sheet_length, entry, entry_length, 1, 0, 0, table, NUMBERS, work, CELLS, &answer);
-    report("correct", returned, answer, 4);
-    print("table", table, SHOWN);
+    memcpy(other, entry, entry_length);
+    other[0] ^= 1;
+    correct("misplaced", entry, other, 1);
+    correct("correct", entry, other, 0);
+    correct("corrected back", other, entry, 0);
     fill(answer, 4);
     returned = entryreader_further(
         sheet, sheet_length, entry, entry_length, 1, (uint32_t)entry_length, table, NUMBERS, work, CELLS, &answer);
