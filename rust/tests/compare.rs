@@ -2,7 +2,7 @@
 //!
 //! Every lent slice is the middle of a longer one: what may not change, in it and around it, is compared too.
 mod comparison;
-#[allow(dead_code)] // Other tests correct entries.
+#[allow(dead_code)] // Other tests tell apart why a cell is refused.
 mod kept;
 mod lent;
 #[allow(dead_code)] // Other tests ask the other cases.
@@ -12,6 +12,8 @@ mod questions;
 mod random;
 #[allow(dead_code)] // Other tests follow a walk.
 mod recognizer;
+#[allow(dead_code)] // Other tests hand over tables that no call left.
+mod tables;
 
 use comparison::Comparison;
 use marked_cases::{H, I as RUN, J};
@@ -129,6 +131,7 @@ fn lengths_of_table_work_and_output() {
             for work in around(case.cells) {
                 comparison.question(&case, table, work);
                 comparison.further(&case, table, work);
+                comparison.correction(&case, table, work);
                 comparison.judge(&case, table, work);
                 drop(comparison.opening(&case, table, work));
                 for output in around(49 * case.cells) {

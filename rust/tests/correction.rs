@@ -155,12 +155,16 @@ fn retained_loops() {
         (pair(2, 3), [4, 2, 3, 0]),
         (pair(2, 1), [7, 0, 0, 0]),
     ] {
-        let mut table = loops(b"xaa", 0).question(&mut random, asked);
-        let said_again = loops(b"yaa", 0).correction(&mut random, asked, &mut table);
+        let mut case = loops(b"xaa", 0);
+        let mut table = case.question(&mut random, asked);
+        case.correct_to(0, b'y');
+        let said_again = case.correction(&mut random, asked, &mut table);
         assert_eq!(said_again, Ok(said), "{asked:?}");
     }
-    let mut table = loops(b"xaa", 0).question(&mut random, pair(1, 1));
-    let left_of_it = loops(b"aaa", 0).correction(&mut random, pair(1, 0), &mut table);
+    let mut case = loops(b"xaa", 0);
+    let mut table = case.question(&mut random, pair(1, 1));
+    case.correct_to(0, b'a');
+    let left_of_it = case.correction(&mut random, pair(1, 0), &mut table);
     assert_eq!(left_of_it, Ok([2, 3, 1, 3]));
 }
 
@@ -170,10 +174,13 @@ fn blanked_loops() {
     let mut random = Random(28);
     let pair = |variable, position| Pair { variable, position };
     for (asked, said) in [(pair(3, 0), [2, 3, 0, 1]), (pair(4, 0), [3, 4, 0, 1])] {
-        let mut table = loops(b"xaa", 2).question(&mut random, asked);
-        let said_again = loops(b"xab", 2).correction(&mut random, asked, &mut table);
+        let mut case = loops(b"xaa", 2);
+        let mut table = case.question(&mut random, asked);
+        case.correct_to(2, b'b');
+        let said_again = case.correction(&mut random, asked, &mut table);
         assert_eq!(said_again, Ok(said), "{asked:?}");
-        let other = loops(b"xac", 2).correction(&mut random, pair(2, 0), &mut table);
+        case.correct_to(2, b'c');
+        let other = case.correction(&mut random, pair(2, 0), &mut table);
         assert_eq!(other, Ok([1, 0, 0, 1]));
         // What is left is variable 2 at 0, the first of the second row: it looked at one byte.
         let mut cells = [0; 40];
@@ -183,47 +190,62 @@ fn blanked_loops() {
     // Case e: 1, 3 and 5 have the end, of which 5 stands behind the corrected byte.
     let mut case = Case::new(marked_cases::H, b"-6", 1);
     let mut table = case.question(&mut random, START);
-    case.entry[1] = b'7';
+    case.correct_to(1, b'7');
     let said = case.correction(&mut random, START, &mut table);
     assert_eq!(said, Ok([4, 5, 2, 3]));
 }
 
-/// The safe call, over a blank table but for the last cell: each answer, and the two refusals of its own.
+/// The correction of an old entry as a program makes it, over a blank table but for the outcome of the last cell.
+fn as_program(
+    old: &[u8],
+    [variable, position]: [u32; 2],
+    c: u32,
+    last: u32,
+) -> Result<Answer, Refusal> {
+    let Case { sheet, entry, .. } = loops(b"yaa", c);
+    let (mut table, mut work) = ([0; 40], [0; 20]);
+    [table[38], table[39]] = [last, 3];
+    let (table, work) = (&mut table, &mut work);
+    let found = entryreader::lent::correct(&sheet, old, &entry, variable, position, c, table, work);
+    found.map_err(|error| {
+        assert_eq!(error.line(), None);
+        error.refusal()
+    })
+}
+
+/// The safe call: each answer, and the three refusals of its own.
 #[test]
 fn safe_call() {
-    let said = |variable, position, c, last| {
-        let case = loops(b"yaa", c);
-        let (mut table, mut work) = ([0; 40], [0; 20]);
-        [table[38], table[39]] = [last, 3];
-        let (sheet, entry) = (&case.sheet, &case.entry);
-        entryreader::lent::correct(sheet, entry, variable, position, c, &mut table, &mut work)
-            .map_err(|error| error.refusal())
-    };
     let pair = |variable, position| Pair { variable, position };
     let success = |end, cells| Ok(Answer::Success { end, cells });
     let loops = |named, cells| Ok(Answer::Loop { named, cells });
     let missing = |named, cells| Ok(Answer::Missing { named, cells });
     let end = |named, cells| Ok(Answer::End { named, cells });
     for (answer, expected) in [
-        (said(2, 1, 0, 8), success(2, 1)),
-        (said(2, 0, 0, 8), Ok(Answer::Failure { cells: 1 })),
-        (said(1, 1, 0, 8), loops(pair(3, 2), 3)),
-        (said(5, 1, 0, 8), missing(pair(4, 2), 3)),
-        (said(2, 3, 0, 8), end(pair(2, 3), 1)),
-        (said(1, 1, 3, 8), Err(Refusal::Corrected)),
-        (said(1, 1, 2, 9), Err(Refusal::Cell)),
-        (said(1, 1, 2, 7), Err(Refusal::Cell)),
+        (as_program(b"xaa", [2, 1], 0, 8), success(2, 1)),
+        (
+            as_program(b"aaa", [2, 0], 0, 8),
+            Ok(Answer::Failure { cells: 1 }),
+        ),
+        (as_program(b"yaa", [1, 1], 0, 8), loops(pair(3, 2), 3)),
+        (as_program(b"xaa", [5, 1], 0, 8), missing(pair(4, 2), 3)),
+        (as_program(b"xaa", [2, 3], 0, 8), end(pair(2, 3), 1)),
+        (as_program(b"xaa", [1, 1], 3, 8), Err(Refusal::Corrected)),
+        (as_program(b"xaa", [1, 1], 2, 9), Err(Refusal::Entries)),
+        (as_program(b"ya", [1, 1], 2, 8), Err(Refusal::Entries)),
+        (as_program(b"yax", [1, 1], 2, 9), Err(Refusal::Cell)),
+        (as_program(b"yaa", [1, 1], 2, 7), Err(Refusal::Cell)),
     ] {
         assert_eq!(answer, expected);
     }
 }
 
-/// Any table: refused with 18 or 19 exactly where their conditions hold, else the call ends within its slices; the same with the table of another sheet
-/// or another entry. What brings a table under 19 was met as its one fault, at positions above c and up to c.
+/// Any table: refused with 18, 21 or 19 exactly where their conditions hold, else the call ends within its slices; the same with the table of another
+/// sheet or another entry. What brings a table under 19 was met as its one fault, at positions above c and up to c.
 #[test]
 fn any_table() {
     let mut random = Random(19);
-    let (mut met, mut alone) = ([0u64; 3], BTreeMap::<_, u64>::new());
+    let (mut met, mut alone) = (BTreeMap::<_, u64>::new(), BTreeMap::<_, u64>::new());
     for _ in 0..60_000 {
         let variables = 1 + random.below(10);
         let length = 1 + random.index(10);
@@ -231,6 +253,9 @@ fn any_table() {
         case.correct(&mut random);
         if random.one_in(20) {
             case.c = random.pick(&[length as u32, length as u32 + 1, u32::MAX]);
+        }
+        if random.one_in(10) {
+            case.old = questions::old_entry(&mut random, &case.entry).0;
         }
         let asked = case.pair(&mut random);
         let mut table = match random.below(4) {
@@ -241,15 +266,17 @@ fn any_table() {
         let faults: Vec<(Fault, bool)> = kept::cells(n, case.first(&table))
             .filter_map(|(place, cell)| Some((call.fault(n, place, cell)?, case.c < place)))
             .collect();
-        let refused = call.refused(n, case.first(&table));
+        let refused = case.refused(call, &table);
         let said = case.correction(&mut random, asked, &mut table);
         assert_eq!(said.err(), refused, "{asked:?} {case}");
-        met[refused.map_or(0, |number| number as usize - 17)] += 1;
+        *met.entry(refused).or_default() += 1;
         if let (Some(19), [fault]) = (refused, &faults[..]) {
             *alone.entry(*fault).or_default() += 1;
         }
     }
-    assert!(met.into_iter().all(|met| 1_000 < met), "{met:?}");
+    let all = [None, Some(18), Some(19), Some(21)];
+    assert!(met.keys().eq(&all), "{met:?}");
+    assert!(met.values().all(|met| 1_000 < *met), "{met:?}");
     assert_eq!(alone.len(), 6, "{alone:?}");
     assert!(alone.values().all(|met| 100 < *met), "{alone:?}");
 }
@@ -423,7 +450,7 @@ fn near_the_end() {
     let (mut random, mut met) = (Random(27), Met::default());
     let mut table = case.question(&mut random, START);
     for (c, byte) in [(n - 1, b'!'), (n - 1, b'.'), (n - 2, b'x'), (n - 2, b's')] {
-        (case.c, case.entry[c]) = (c as u32, byte);
+        case.correct_to(c, byte);
         let newly = met.correction(&mut random, &case, START, &mut table);
         let reached = case.answered(START).table;
         let cells = kept::cells(case.n(), &reached);
@@ -436,36 +463,10 @@ fn near_the_end() {
     }
 }
 
-/// The question's refusals come first, in their order.
-#[test]
-fn question_first() {
-    let mut random = Random(21);
-    let case = loops(b"xaa", 9);
-    let pair = |variable, position| Pair { variable, position };
-    let mut said = |case: &Case, asked, length| {
-        case.correction(&mut random, asked, &mut vec![u32::MAX; length])
-    };
-    let damaged = Case {
-        sheet: b"x".to_vec(),
-        ..case.clone()
-    };
-    let long = Case {
-        entry: vec![b'a'; 4_097],
-        ..case.clone()
-    };
-    assert_eq!(said(&damaged, pair(0, 9), 0), Err(1));
-    assert_eq!(said(&long, pair(0, 9), 0), Err(6));
-    assert_eq!(said(&case, pair(0, 9), 0), Err(8));
-    assert_eq!(said(&case, pair(6, 9), 0), Err(8));
-    assert_eq!(said(&case, pair(1, 4), 0), Err(9));
-    assert_eq!(said(&case, pair(1, 3), 39), Err(10));
-    assert_eq!(said(&case, pair(1, 3), 40), Err(18));
-}
-
-/// A position that was named wrongly: the call still ends, and what it leaves beyond its cells is as it was.
+/// A position that was named wrongly: refused with 21 exactly where the entries differ elsewhere, and else answered as on a fresh table.
 #[test]
 fn wrong_position() {
-    let mut random = Random(22);
+    let (mut random, mut met) = (Random(22), [0u64; 2]);
     for _ in 0..20_000 {
         let variables = 1 + random.below(12);
         let length = 2 + random.index(11);
@@ -473,8 +474,17 @@ fn wrong_position() {
         let asked = case.pair(&mut random);
         let mut table = case.question(&mut random, asked);
         case.correct(&mut random);
-        case.c = case.position(&mut random) as u32;
-        let said = case.correction(&mut random, asked, &mut table);
-        assert!(said.is_ok(), "{said:?} {asked:?} {case}");
+        let corrected = case.c as usize;
+        let named = case.position(&mut random);
+        case.c = named as u32;
+        let refused = named != corrected && case.old[corrected] != case.entry[corrected];
+        if refused {
+            let said = case.correction(&mut random, asked, &mut table);
+            assert_eq!(said, Err(21), "{asked:?} {case}");
+        } else {
+            case.compared(&mut random, case.last_correction(), asked, &mut table);
+        }
+        met[usize::from(refused)] += 1;
     }
+    assert!(met.into_iter().all(|met| 3_000 < met), "{met:?}");
 }

@@ -368,7 +368,7 @@ fn any_tables() {
             .enumerate()
             .filter_map(|(at, (place, cell))| Some((Call::Further.fault(n, place, cell)?, at)))
             .collect();
-        let refused = Call::Further.refused(n, &table);
+        let refused = case.refused(Call::Further, &table);
         table.extend([u32::MAX; 3]);
         let said = case.further(&mut random, asked, &mut table);
         assert_eq!(said.err(), refused, "{asked:?} {case}");

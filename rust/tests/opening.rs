@@ -24,6 +24,8 @@ mod sheets;
 #[allow(dead_code)] // Other sheets are measured with.
 #[path = "../benches/benchmark/society.rs"]
 mod society;
+#[allow(dead_code)] // Other tests correct entries, and ask further questions.
+mod tables;
 
 use comparison::Comparison;
 use entryreader::{Reader, test_calls};

@@ -1,5 +1,7 @@
-//! Every refusal that verdict, question and further question have, 1 to 10, under its conditions and in its order; nothing is changed by one.
-use entryreader::{Code, Refusal, lent};
+//! Every refusal that verdict, question, further question and correction have, 1 to 10, under its conditions and in its order; nothing is changed by one.
+//! The numbers of all refusals.
+use entryreader::{Answer, Code, Error, Refusal, lent};
+use std::collections::BTreeSet;
 
 const GOOD: &str =
     "    2    1   46    0    0\n    1    4    2    2    2\n    2    2   97    0    0\n";
@@ -20,7 +22,20 @@ fn refused_by_all(sheet: &[u8], entry: &[u8], number: u32) {
     question_refused(sheet, entry, 1, 0, 1024, 1024, number);
 }
 
-/// The table holds what brings a further question under 19, which comes last.
+/// A correction with a fault of its own, the old entry: 21 comes behind, or 18 where the entry is empty.
+fn corrected(
+    sheet: &[u8],
+    entry: &[u8],
+    variable: u32,
+    position: u32,
+    table: &mut [u32],
+    work: &mut [u32],
+) -> Result<Answer, Error> {
+    let old = [entry, b"."].concat();
+    lent::correct(sheet, &old, entry, variable, position, 0, table, work)
+}
+
+/// The table holds what brings a further question and a correction under 19, which comes last.
 fn question_refused(
     sheet: &[u8],
     entry: &[u8],
@@ -32,7 +47,7 @@ fn question_refused(
 ) {
     let refusal = Refusal::from_number(number).unwrap();
     let (mut table, mut work) = (vec![u32::MAX; table], vec![9; work]);
-    for call in [lent::question, lent::further] {
+    for call in [lent::question, lent::further, corrected] {
         let answer = call(sheet, entry, variable, position, &mut table, &mut work);
         assert_eq!(
             answer.map_err(|error| error.refusal()),
@@ -168,4 +183,15 @@ fn ten_room() {
     assert_eq!(verdict(GOOD.as_bytes(), &entry), Ok(Code::Partial));
     entry.insert(0, b'a');
     assert_eq!(verdict(GOOD.as_bytes(), &entry), Err(Refusal::Room));
+}
+
+/// Those from 1 to 21, each with a meaning of its own, and no others.
+#[test]
+fn numbers() {
+    let numbers = (0..200).chain([u32::MAX]);
+    let refusals: Vec<Refusal> = numbers.filter_map(Refusal::from_number).collect();
+    let found = refusals.iter().map(|refusal| refusal.number());
+    assert!(found.eq(1..=21), "{refusals:?}");
+    let meanings = BTreeSet::from_iter(refusals.iter().map(|refusal| refusal.meaning()));
+    assert_eq!(meanings.len(), 21);
 }

@@ -6,7 +6,8 @@ use crate::random::Random;
 use crate::recognizer::{
     self, Answered, Ending, Opened, Outcome, Question, Ran, Size, Written, bytes, code,
 };
-use entryreader::{Answer, Claim, Error, Pair, lent as exported, test_calls};
+use crate::tables;
+use entryreader::{Answer, Claim, Pair, lent as exported, test_calls};
 use std::collections::{BTreeMap, BTreeSet};
 
 const OUTCOMES: &[&str] = &["success", "failure", "loop", "missing", "end"];
@@ -14,10 +15,15 @@ const OUTCOMES: &[&str] = &["success", "failure", "loop", "missing", "end"];
 const VERDICTS: &[&str] = &["recognised", "partial", "failure", "loop", "missing", "end"];
 
 /// What each call can say, and the numbers of its refusals; and how many cells a question decides.
-const ANSWERS: [(&str, &[&str], &[u32]); 10] = [
+const ANSWERS: [(&str, &[&str], &[u32]); 11] = [
     ("sheet", &["read"], &[1, 2, 3, 4, 5]),
     ("question", OUTCOMES, &[1, 2, 3, 4, 5, 6, 8, 9, 10]),
     ("further", OUTCOMES, &[1, 2, 3, 4, 5, 6, 8, 9, 10, 19]),
+    (
+        "correction",
+        OUTCOMES,
+        &[1, 2, 3, 4, 5, 6, 8, 9, 10, 18, 19, 21],
+    ),
     ("verdict", VERDICTS, &[1, 2, 3, 4, 5, 6, 7, 10]),
     ("judge", VERDICTS, &[1, 2, 3, 4, 5, 6, 7, 10]),
     (
@@ -81,26 +87,29 @@ fn opened(least: Option<usize>) -> String {
     opened.to_string()
 }
 
-/// What is to be said of a further question over a kept table, or one with a cell at fault: the answer, the cells afterwards and how many of them are new.
-fn further_by_document(
+/// What is to be said of a further question or a correction over a kept table of the old entry, or one with a cell at fault: the answer, the cells
+/// afterwards and how many of them are new.
+fn by_document(
+    call: Call,
+    old: &[u8],
     case: &Case,
     table: &[u32],
     work: usize,
 ) -> Result<(Answered, Vec<u32>, u32), u32> {
     let found = recognizer::question(case.question(), table.len(), work)?;
     let cells = &table[..found.table.len()];
-    if let Some(number) = Call::Further.refused(case.entry.len() as u32, cells) {
+    if let Some(number) = call.refused([old, &case.entry], cells) {
         return Err(number);
     }
-    let (cells, newly) = kept::left(&found.table, cells);
+    let start = call.retained(case.entry.len() as u32, cells);
+    let (cells, newly) = kept::left(&found.table, &start);
     Ok((found, cells, newly))
 }
 
-/// A question or a further one as a program asks it.
-type Exported = fn(&[u8], &[u8], u32, u32, &mut [u32], &mut [u32]) -> Result<Answer, Error>;
-
+/// A call as a program makes it.
 fn as_program(
-    call: Exported,
+    call: Call,
+    old: &[u8],
     case: &Case,
     mut table: Vec<u32>,
     work: usize,
@@ -108,9 +117,16 @@ fn as_program(
 ) {
     let Pair { variable, position } = case.asked;
     let (sheet, entry, mut work) = (&case.sheet, &case.entry, vec![7; work]);
-    let found = call(sheet, entry, variable, position, &mut table, &mut work);
+    let (table, work) = (&mut table, &mut work);
+    let found = match call {
+        Call::Question => exported::question(sheet, entry, variable, position, table, work),
+        Call::Further => exported::further(sheet, entry, variable, position, table, work),
+        Call::Correction { c } => {
+            exported::correct(sheet, old, entry, variable, position, c, table, work)
+        }
+    };
     let found = found.map_err(|error| error.number());
-    assert_eq!(found, expected, "{case}");
+    assert_eq!(found, expected, "{call:?} {old:?} {case}");
 }
 
 /// The checker as the program calls it.
@@ -237,7 +253,8 @@ impl Comparison {
             self.count("cells", decided(found.cells));
         }
         let expected = expected.map(|found| found.answer(found.cells));
-        as_program(exported::question, case, vec![7; table], work, expected);
+        let table = vec![7; table];
+        as_program(Call::Question, &[], case, table, work, expected);
     }
 
     /// A table of so many numbers: what a question about another pair leaves of a blank one, as the recognizer says, sometimes with a cell at fault.
@@ -264,17 +281,33 @@ impl Comparison {
     /// The further question over such a table.
     pub fn further(&mut self, case: &Case, table: usize, work: usize) {
         let before = self.kept_table(case, table);
-        let expected = further_by_document(case, &before, work);
+        self.over_kept(Call::Further, &[], case, before, work);
+    }
+
+    /// A correction of some old entry over such a table of that.
+    pub fn correction(&mut self, case: &Case, table: usize, work: usize) {
+        let (old, c) = questions::old_entry(&mut self.random, &case.entry);
+        let kept = Case {
+            entry: old,
+            ..case.clone()
+        };
+        let before = self.kept_table(&kept, table);
+        let call = Call::Correction { c };
+        self.over_kept(call, &kept.entry, case, before, work);
+    }
+
+    /// The call over a table that holds this.
+    fn over_kept(&mut self, call: Call, old: &[u8], case: &Case, before: Vec<u32>, work: usize) {
+        let expected = by_document(call, old, case, &before, work);
         let mut handed = Handed::new(&mut self.random, case);
+        let mut lent_old = Lent::of(&mut self.random, old);
         let mut room = Room::new(&mut self.random, [0, work, 0], 4);
         room.table = Lent::of(&mut self.random, &before);
-        let returned = test_calls::further(
-            handed.sheet.slice(),
-            handed.entry.slice(),
-            case.asked.variable,
-            case.asked.position,
-            room.table.slice(),
-            room.work.slice(),
+        let returned = tables::exported(
+            call,
+            [handed.sheet.slice(), lent_old.slice(), handed.entry.slice()],
+            case.asked,
+            [room.table.slice(), room.work.slice()],
             room.answer.array(),
         );
         let (code, same, what) = match &expected {
@@ -285,14 +318,14 @@ impl Comparison {
             ),
             Err(number) => (100 + number, room.unchanged(), refused(*number)),
         };
-        let answer = room.answer.slice();
+        let (table, answer) = (before.len(), room.answer.slice());
         assert!(
-            returned == code && same && handed.unchanged(),
-            "further over {table}, {work}: {returned} {answer:?}, not {what}\n{case}"
+            returned == code && same && handed.unchanged() && lent_old.unchanged(),
+            "{call:?} over {table}, {work}: {returned} {answer:?}, not {what}\n{old:?} {case}"
         );
-        self.count("further", what);
+        self.count(call.name(), what);
         let expected = expected.map(|(found, _, newly)| found.answer(newly));
-        as_program(exported::further, case, before, work, expected);
+        as_program(call, old, case, before, work, expected);
     }
 
     pub fn sheet(&mut self, case: &Case) {
@@ -570,6 +603,7 @@ impl Comparison {
         self.sheet(case);
         self.question(case, table, work);
         self.further(case, table, work);
+        self.correction(case, table, work);
         self.verdict(case);
         self.judge(case, table, work);
         // Of longer entries the recognizer would try too many openings.

@@ -1,5 +1,5 @@
-//! What a call does to the cells of a table before it asks, and what it leaves: document 02, orders 4, 6 and 8, over tables of just V times (n + 1)
-//! cells.
+//! What a call refuses of entries and tables, what it does to the cells of a table before it asks, and what it leaves: document 02, orders 4, 6, 8
+//! and 10, over tables of just V times (n + 1) cells.
 
 /// A cell: "two numbers side by side, outcome then reach, both 0 when blank".
 pub type Cell = [u32; 2];
@@ -50,6 +50,12 @@ pub fn cells(n: u32, table: &[u32]) -> impl Iterator<Item = (u32, Cell)> {
     places.zip(table.as_chunks().0.iter().copied())
 }
 
+/// "the old and new entries differ in length or at a place other than c"
+fn differ(old: &[u8], new: &[u8], c: u32) -> bool {
+    let mut places = (0..).zip(old.iter().zip(new));
+    old.len() != new.len() || places.any(|(place, (old, new))| place != c && old != new)
+}
+
 /// A call about an entry of n bytes, over a table that is lent to it.
 #[derive(Clone, Copy, Debug, PartialEq, Eq)]
 pub enum Call {
@@ -93,10 +99,13 @@ impl Call {
         fault(n, place, cell).filter(|_| self.stays(place, cell))
     }
 
-    /// The first of 18 and 19 that holds.
-    pub fn refused(self, n: u32, table: &[u32]) -> Option<u32> {
-        if matches!(self, Call::Correction { c } if n <= c) {
-            return Some(18);
+    /// The first of 18, 21 and 19 that holds: 21, which is about the entries, comes "after 18".
+    pub fn refused(self, [old, new]: [&[u8]; 2], table: &[u32]) -> Option<u32> {
+        let n = new.len() as u32;
+        match self {
+            Call::Correction { c } if n <= c => return Some(18),
+            Call::Correction { c } if differ(old, new, c) => return Some(21),
+            _ => {}
         }
         let at_fault = |(place, cell)| self.fault(n, place, cell).is_some();
         cells(n, table).any(at_fault).then_some(19)

@@ -1,4 +1,4 @@
-//! Random sheets, entries, pairs and readings: valid and damaged.
+//! Random sheets, entries, old entries, pairs and readings: valid and damaged.
 use crate::random::Random;
 use crate::recognizer::{self, FIELDS, LINE, Line, Question, bytes};
 use entryreader::Pair;
@@ -175,6 +175,29 @@ pub fn entry(random: &mut Random, length: usize) -> Vec<u8> {
         *last = b'.';
     }
     entry
+}
+
+/// An entry that another one corrects, and the position that is named for it. Mostly they differ there or nowhere; else elsewhere or in length, or no
+/// byte stands there.
+pub fn old_entry(random: &mut Random, entry: &[u8]) -> (Vec<u8>, u32) {
+    let (mut old, n) = (entry.to_vec(), entry.len());
+    let at = random.index(n.max(1));
+    if let Some(byte) = old.get_mut(at) {
+        let any = random.below(256) as u8;
+        *byte = random.pick(&[*byte, any, !*byte, b'a', b'.', 0, 255]);
+    }
+    match random.below(20) {
+        0 => drop(old.pop()),
+        1 => old.push(b'.'),
+        2 => old.rotate_left(n.min(1)),
+        _ => {}
+    }
+    let c = match random.below(20) {
+        0 => random.pick(&[n as u32, n as u32 + 1, u32::MAX]),
+        1 => random.index(n.max(1)) as u32,
+        _ => at as u32,
+    };
+    (old, c)
 }
 
 /// A field of the sheet with another number in it.

@@ -24,10 +24,11 @@ pub const ANSWERS: [&str; 15] = [
 /// The four numbers of an answer, or the number of a refusal.
 pub type Said = Result<[u32; 4], u32>;
 
-/// A sheet of so many variables, an entry, and the position of the byte that was corrected last.
+/// A sheet of so many variables, an entry, the entry before its last correction, and the position of the byte that was corrected.
 #[derive(Clone, Debug)]
 pub struct Case {
     pub sheet: Vec<u8>,
+    pub old: Vec<u8>,
     pub entry: Vec<u8>,
     pub variables: usize,
     pub c: u32,
@@ -35,20 +36,17 @@ pub struct Case {
 
 impl Case {
     pub fn random(random: &mut Random, variables: u64, length: usize) -> Case {
-        Case {
-            sheet: questions::sheet(random, variables),
-            entry: questions::entry(random, length),
-            variables: variables as usize,
-            c: 0,
-        }
+        let sheet = questions::sheet(random, variables);
+        Case::new(sheet, &questions::entry(random, length), 0)
     }
 
-    /// Of a sheet whose line 1 is right.
+    /// Of a sheet whose line 1 is right, the byte at c corrected to what it was.
     pub fn new(sheet: impl AsRef<[u8]>, entry: &[u8], c: u32) -> Case {
         let case = questions::Case::new(sheet, entry, 0);
         Case {
             variables: case.cells / (entry.len() + 1),
             sheet: case.sheet,
+            old: entry.to_vec(),
             entry: case.entry,
             c,
         }
@@ -70,16 +68,23 @@ impl Case {
         random.pick(&[0, last / 2, last, any, any, any])
     }
 
+    /// The byte at c is corrected to this one.
+    pub fn correct_to(&mut self, c: usize, byte: u8) {
+        self.old.clone_from(&self.entry);
+        self.entry[c] = byte;
+        self.c = c as u32;
+    }
+
     /// Another byte at some position, sometimes the same.
     pub fn correct(&mut self, random: &mut Random) {
         let at = self.position(random);
         let other = random.pick(b"a\xE9\xE9b\xC9-6A\xA0 \xD7!\x80.");
-        self.entry[at] = match random.below(6) {
+        let byte = match random.below(6) {
             0 => self.entry[at],
             1 => random.below(256) as u8,
             _ => other,
         };
-        self.c = at as u32;
+        self.correct_to(at, byte);
     }
 
     pub fn pair(&self, random: &mut Random) -> Pair {
@@ -134,6 +139,11 @@ impl Case {
         &table[..2 * self.cells()]
     }
 
+    /// The first of 18, 21 and 19 that holds for a call over a table.
+    pub fn refused(&self, call: Call, table: &[u32]) -> Option<u32> {
+        call.refused([&self.old, &self.entry], self.first(table))
+    }
+
     /// A call over a table of these numbers and a work slice that is longer than it needs to be.
     pub fn said(&self, random: &mut Random, call: Call, asked: Pair, table: &mut Vec<u32>) -> Said {
         self.said_over(random, call, asked, table, self.cells() + 3)
@@ -149,19 +159,21 @@ impl Case {
         table: &mut Vec<u32>,
         work: usize,
     ) -> Said {
-        let [mut sheet, mut entry] = [&self.sheet, &self.entry].map(|read| Lent::of(random, read));
+        let read = [&self.sheet, &self.old, &self.entry];
+        let [mut sheet, mut old, mut entry] = read.map(|read| Lent::of(random, read));
         let mut lent = Lent::of(random, table);
         let mut work = Lent::any(random, work);
         let mut answer = Lent::<u32>::any(random, 4);
         let returned = exported(
             call,
-            [sheet.slice(), entry.slice()],
+            [sheet.slice(), old.slice(), entry.slice()],
             asked,
             [lent.slice(), work.slice()],
             answer.array(),
         );
         let shown = || format!("{returned} {call:?} {asked:?} {self}");
-        assert!(sheet.unchanged() && entry.unchanged(), "{}", shown());
+        let read = [&sheet, &old, &entry];
+        assert!(read.into_iter().all(Lent::unchanged), "{}", shown());
         if returned != 0 {
             let unchanged = lent.unchanged() && work.unchanged() && answer.unchanged();
             assert!(unchanged, "{}", shown());
@@ -214,15 +226,15 @@ impl Case {
 impl std::fmt::Display for Case {
     fn fmt(&self, f: &mut std::fmt::Formatter<'_>) -> std::fmt::Result {
         let sheet = String::from_utf8_lossy(&self.sheet);
-        let entry = String::from_utf8_lossy(&self.entry);
-        write!(f, "{sheet}{entry:?} corrected at {}", self.c)
+        let [old, entry] = [&self.old, &self.entry].map(|entry| String::from_utf8_lossy(entry));
+        write!(f, "{sheet}{old:?} corrected at {} to {entry:?}", self.c)
     }
 }
 
-/// The call itself.
-fn exported(
+/// The call itself; only a correction is handed the old entry.
+pub fn exported(
     call: Call,
-    [sheet, entry]: [&[u8]; 2],
+    [sheet, old, entry]: [&[u8]; 3],
     Pair { variable, position }: Pair,
     [table, work]: [&mut [u32]; 2],
     answer: &mut [u32; 4],
@@ -232,9 +244,9 @@ fn exported(
             test_calls::question(sheet, entry, variable, position, table, work, answer)
         }
         Call::Further => test_calls::further(sheet, entry, variable, position, table, work, answer),
-        Call::Correction { c } => {
-            test_calls::correct(sheet, entry, variable, position, c, table, work, answer)
-        }
+        Call::Correction { c } => test_calls::correct(
+            sheet, old, entry, variable, position, c, table, work, answer,
+        ),
     }
 }
 
