@@ -49,11 +49,6 @@ module _ (s s′ : List ℕ) (from to : ℕ) where
 -- ---- Everywhere but at c.
 
 module _ (c : ℕ) (s s′ : List ℕ) where
-  -- Of different lengths nothing is compared.
-  pub other-length : (length s ≡ length s′ → ⊥) → true ≡ differsElsewhere c s s′
-  unfolding differsElsewhere
-  other-length n = rw (ne-eqb (length s) (length s′) n)
-
   module _ (below : c < length s′) where
     abbrev before : Bool
     before = differsBetween s s′ 0 c

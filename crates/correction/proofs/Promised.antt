@@ -13,7 +13,7 @@ use Rattle.grammar.specs.Sheet.{Grammar, sheet}
 use Rattle.schema.specs.Derivation.{_at_}
 use Rattle.schema.specs.Handed.{Handed, handed, questionOf}
 use Rattle.schema.specs.Table.{Within}
-use Rattle.schema.proofs.Handed.{handed-sheet, handed-pair}
+use Rattle.schema.proofs.Handed.{handed-sheet, handed-input, handed-pair}
 use Rattle.schema.proofs.Small.{refusal-small}
 use Rattle.finish.specs.Reply.{Reply, told}
 use Rattle.finish.specs.declared.Answer.{Answer}
@@ -22,7 +22,7 @@ use Rattle.memo.proofs.Promised.{question-answers}
 use Rattle.kept.specs.Differs.{DiffersAt, differsElsewhere}
 use Rattle.kept.specs.Kept.{retained, KeptTable, asked, corrected}
 use Rattle.kept.specs.Range.{cellsOut}
-use Rattle.kept.proofs.Differing.{then-differs}
+use Rattle.kept.proofs.Differing.{other-length, then-differs}
 use Rattle.kept.proofs.Ranged.{none-right}
 use Rattle.correction.specs.Call.{KeptAnswers, KeptCall, KeptOf, Alike}
 use Rattle.correction.specs.Correction.{CorrectionPromise}
@@ -96,6 +96,15 @@ module _ (s old input : List ℕ) (A p c : ℕ) (table work : List ℕ) where
         by-test : (b : Bool) → differsElsewhere c old input ≡ b → correctable s old input (A at p) c table (length work) ≢ refused 19 l
         by-test true differs = elsewhere l differs
         by-test false same = in-range l (kept-in same)
+
+  -- ---- "6 tests only the new one": an old input over 4,096 bytes is refused with 21.
+
+  pub long-old : (g : Grammar) → handed s (questionOf input (A at p) (length table) (length work)) ≡ accepted g → c < length input → 4096 < length old
+      → correctable s old input (A at p) c table (length work) ≡ refused 21 0
+  long-old g e l long =
+      let short = handed-input s question g e in
+      refusing.then-tested s input (A at p) (length table) (length work) own correctionOrder correction-late g e
+      ∙ correction-tested old input c table g ∙ rw (lt-ltb c (length input) l, other-length c old input (λ z. omega arith))
 
   -- ---- Any result.
 

@@ -1,5 +1,5 @@
 -- What was promised of a correction before it was shown the old entry, beside what is promised now. Assumes nothing.
-use mathlib.Core.Bool.{Bool, true, false, cond}
+use mathlib.Core.Bool.{false}
 use mathlib.Core.List.{List}
 use mathlib.Core.Path.{_≡_, refl, sym, _∙_, subst}
 use Prim.Native.Nat.{ℕ, _+_, _≤_}
@@ -15,7 +15,7 @@ use Rattle.finish.specs.declared.Answer.{Answer}
 use Rattle.kept.specs.Differs.{differsElsewhere}
 use Rattle.kept.specs.Kept.{retained}
 use Rattle.kept.proofs.Differing.{then-differs}
-use Rattle.correction.specs.Call.{KeptCall, KeptOf, Replies}
+use Rattle.correction.specs.Call.{KeptOf, Replies}
 use Rattle.correction.specs.Refusals.{correctionCondition, correctionOrder, correctable, callable}
 use Rattle.correction.specs.Unshown.{unshownOrder, BesideUnshown}
 use Rattle.correction.proofs.Refusing.{refused-before, then-tested, correction-late}

@@ -2,14 +2,13 @@
 -- marked case. Assumes nothing.
 use mathlib.Core.Bool.{false}
 use mathlib.Core.List.{List, List·Memᴰ}
-use mathlib.Core.Path.{_≡_, sym, ap, _∙_, subst}
+use mathlib.Core.Path.{_≡_, sym, subst}
 use Prim.Native.Nat.{ℕ, _+_, _*_, _≤_, _<_}
 use lib.ListN.{length}
 use Rattle.grammar.specs.Printing.{text}
 use Rattle.grammar.specs.Refusal.{accepted}
 use Rattle.grammar.specs.Sheet.{Grammar, grammarOf, sheet}
-use Rattle.grammar.proofs.Accepted.{describes}
-use Rattle.schema.specs.Cases.{Case, cases, firstPair}
+use Rattle.schema.specs.Cases.{Case, cases}
 use Rattle.schema.specs.Derivation.{_at_}
 use Rattle.schema.specs.Handed.{handed, questionOf}
 use Rattle.schema.specs.Table.{cells, contents}

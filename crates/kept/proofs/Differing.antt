@@ -1,5 +1,5 @@
 -- The test for 21 fails exactly where two entries differ at c at most. Assumes nothing.
-use mathlib.Core.Bool.{Bool, true, false, not, _&&_, _||_}
+use mathlib.Core.Bool.{Bool, true, false, not}
 use mathlib.Core.List.{List}
 use mathlib.Core.Logic.{_≢_, _↔_}
 use mathlib.Core.Path.{_≡_, refl, sym, _∙_}
@@ -14,6 +14,11 @@ use Rattle.kept.specs.Some.{some}
 use Rattle.kept.proofs.Some.{some-none, some-each}
 
 module _ (c : ℕ) (s s′ : List ℕ) where
+  -- Of different lengths nothing need be compared.
+  pub other-length : length s ≢ length s′ → differsElsewhere c s s′ ≡ true
+  unfolding differsElsewhere
+  other-length n = rw (ne-eqb (length s) (length s′) n)
+
   pub if-differs : DiffersAt c s s′ → differsElsewhere c s s′ ≡ false
   unfolding differsElsewhere
   if-differs d = rw (eq-eqb (length s) (length s′) (sym (d .size)), some-none (length s′) (otherBytesDiffer c s s′) (λ p l. at-each p (eqb p c) refl))

@@ -1,5 +1,4 @@
 use Prim.Native.Nat.{_-_}
-use native.Mathlib.Omega.{arith}
 use borrow.Author.Needs.{needs}
 use Rattle.comparison.proofs.Comparing.{Comparing, comparing-begins, comparing-goes-on, comparing-ends}
 use Rattle.comparison.proofs.differs_between.Statement.{statement}

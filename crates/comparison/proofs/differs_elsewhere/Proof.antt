@@ -1,16 +1,17 @@
 use mathlib.Core.Bool.{_||_}
-use mathlib.Core.Path.{_≡_, ap₂, _∙_}
+use mathlib.Core.Path.{_≡_, sym, ap₂, _∙_}
 use Prim.Native.Nat.{_+_}
 use native.Mathlib.Omega.{arith}
 use lib.ListN.{length}
+use Rattle.kept.proofs.Differing.{other-length}
 use Rattle.comparison.specs.Between.{differsBetween}
-use Rattle.comparison.proofs.Comparing.{other-length, parts-elsewhere}
+use Rattle.comparison.proofs.Comparing.{parts-elsewhere}
 use borrow.Author.Needs.{needs}
 use Rattle.comparison.proofs.differs_elsewhere.Statement.{statement}
 use Rattle.comparison.proofs.differs_elsewhere.Tie as tie
 
 returns : tie.Need-returns
-returns c = let a = c .before .before .before .args in other-length (a .c) (a .old .now) (a .input .now) (λ z. omega arith)
+returns c = let a = c .before .before .before .args in sym (other-length (a .c) (a .old .now) (a .input .now) (λ z. omega arith))
 
 differs-between-requires : tie.Need-differs-between-requires
 differs-between-requires c κs = search needs
