@@ -1,8 +1,8 @@
 #!/usr/bin/env python3
 """Writes crates/test_output/stdin and crates/test_output/stdout.
 
-The table below was written by hand from document 01, "Marked entries": a sheet, an entry, and what `readentry` prints for them. No expected line
-comes from the program under test.
+The table below was written by hand from document 01, "Marked entries", and document 02, order 11: a sheet, an entry, and what `readentry`
+prints for them. No expected line comes from the program under test.
 
 Run from the repository's root: python3 tests/make_test_output.py
 """
@@ -18,9 +18,9 @@ H = ("    6    1   46    0    0\n"
      + "    6    1    0    0    0\n")
 
 CASES = [
-    # A failure with its reading: case f, closed by the endmarker.
+    # A failure with its reading: case f.
     (H,
-     "x.",
+     "x",
      "       1       0       0       5\n"
      + "       2       0       1       0       0       0\n"
      + "       4       0       1       0       0       0\n"
@@ -48,21 +48,62 @@ CASES = [
      + "    1    4    2    1    3\n"
      + "    2    0    0    0    0\n"
      + "    3    1    0    0    0\n",
-     ".",
+     "",
      "       2       1       0       2\n"),
 
     # A missing rule: case j.
     ("    2    1   46    0    0\n"
      + "    1    4    2    2    2\n",
-     ".",
+     "",
      "       3       2       0       2\n"),
 
-    # The entry's end.
+    # A byte rule at the entry's end fails.
     ("    2    1   46    0    0\n"
      + "    1    4    2    2    2\n"
      + "    2    2   46    0    0\n",
      ".",
-     "       4       2       1       3\n"),
+     "       1       0       0       3\n"
+     + "       2       0       0       1       0       0\n"
+     + "       2       1       1       1       0       0\n"
+     + "       1       0       1       0       1       2\n"),
+
+    # The same in case e, whose entry has no closing mark.
+    (H,
+     "-6",
+     "       1       0       0       5\n"
+     + "       2       0       0       1       0       0\n"
+     + "       4       1       0       2       0       0\n"
+     + "       5       2       1       2       0       0\n"
+     + "       3       1       1       1       2       3\n"
+     + "       1       0       1       0       1       4\n"),
+
+    # Recognised without a closing mark.
+    ("    1    1   46    0    0\n"
+     + "    1    3    1    0    0\n",
+     "6",
+     "       0       0       1       1\n"
+     + "       1       0       0       1       0       0\n"),
+
+    # The endmarker is a byte like others: case a with more behind it is partial.
+    (H,
+     "-6.6.",
+     "       5       0       3       5\n"
+     + "       2       0       0       1       0       0\n"
+     + "       4       1       0       2       0       0\n"
+     + "       5       2       0       3       0       0\n"
+     + "       3       1       0       3       2       3\n"
+     + "       1       0       0       3       1       4\n"),
+
+    # An empty entry: recognised where the start variable succeeds at 0, a loop in case g.
+    ("    1    1   46    0    0\n"
+     + "    1    0    0    0    0\n",
+     "",
+     "       0       0       0       1\n"
+     + "       1       0       0       0       0       0\n"),
+    ("    1    1   46    0    0\n"
+     + "    1    4    1    1    1\n",
+     "",
+     "       2       1       0       1\n"),
 
     # Refusal 2: a leading zero on line 3.
     ("    6    1   46    0    0\n"
@@ -75,15 +116,10 @@ CASES = [
      "-6.",
      "       9       2       3       0\n"),
 
-    # Refusal 7: no endmarker.
-    (H,
-     "-6",
-     "       9       7       0       0\n"),
-
-    # Refusal 10: one variable and 1,024 bytes, so 1,025 cells.
+    # Refusal 10: one variable and 1,024 bytes, none of them the endmarker, so 1,025 cells.
     ("    1    1   46    0    0\n"
      + "    1    0    0    0    0\n",
-     "a" * 1023 + ".",
+     "a" * 1024,
      "       9      10       0       0\n"),
 ]
 

@@ -17,7 +17,7 @@ MORE = 0, 1, 2, 7       # so many numbers more than are due are lent by turns
 DECIDED = 300           # a chain's first question decides at least so many cells
 LINE = 40               # bytes of an entry that is cut off
 SHAPES = (7, MAX_ENTRY), (WIDE - 1, 127), (2, 0)        # V and n of cells that are moved whatever they hold
-HELD = "blank", "failure", "loop", "missing", "end", "success"
+HELD = "blank", "failure", "loop", "missing", "4", "success"
 KINDS = ("archive requests", "archive chains", "stored", "restored", "stored outcomes", "archive shapes", "archive lent", "archive questions",
          "archive question judge", "archive corrections", "archive correction judge", "archive: asked cell", "archive: call before",
          "archive: newly decided", "archive: waiting")
@@ -145,7 +145,7 @@ def ask_held(rng, page, wanted="{}"):
 
 
 def ask_waiting(rng, page):
-    """A pair that waits for such a cell of a loop, a missing rule or an end."""
+    """A pair that waits for such a cell of a loop or a missing rule."""
     ask_held(rng, page, "waits for a kept {}")
 
 
@@ -181,7 +181,7 @@ CHAINS = {"of a question": ("loop", store_once, restore_once, ask_waiting, corre
           "of a blank table": ("success", store_once, restore_once, ask_once, correct_once),
           "of a further question": ("missing", ask_once, store_once, restore_once, ask_held, correct_once),
           "of a correction": ("loop", correct_once, store_once, restore_once, correct_once, ask_held),
-          "stored again": ("end", store_once, restore_once, ask_waiting, store_once, restore_once, ask_held),
+          "stored again": ("missing", store_once, restore_once, ask_waiting, store_once, restore_once, ask_held),
           "asked between": ("failure", asked_between, correct_once),
           "corrected between": ("loop", corrected_between, ask_held)}
 SPECIAL = "another page between", "every outcome", "limits", "other shapes", "numbers put", "refused"
@@ -220,16 +220,22 @@ def pairs_of(maker, q):
 
 
 def run_every_outcome(maker, rng, classes, asked):
-    """Further questions until the table has every outcome."""
+    """Further questions until the table has every outcome; then two cells are 4s too, which are moved as they are. Behind that, with the two
+    as before, a cell of each outcome is asked."""
     for q in [q for q, _ in asked if kind_of(q) == "random"]:
         pairs = pairs_of(maker, q)
         if len(pairs) == len(OUTCOMES): break
     page = Archived(maker, classes, q, SPECIAL[1])
     for outcome in OUTCOMES:
         if outcome != maker.found[q].outcome: page.ask(pairs[outcome])
+    held = {i: page.table[2 * i:2 * i + 2] for i in (1, cells_due(q) - 1)}
+    for i, reach in zip(held, (0, len(q.entry) + 1)): page.put(i, (4, reach))
     page.store()
     page.restore()
-    for outcome in ("loop", "missing", "end"): page.ask(pair_for(rng, page, f"waits for a kept {outcome}"))
+    page.refused(19)
+    for i, cell in held.items(): page.put(i, cell)
+    for outcome in ("loop", "missing"): page.ask(pair_for(rng, page, f"waits for a kept {outcome}"))
+    for outcome in OUTCOMES: page.ask(pair_for(rng, page, outcome))
     correct_once(rng, page)
 
 
@@ -249,7 +255,7 @@ def run_limits(maker, rng, classes, asked):
 
 def run_shapes(maker, rng, classes, asked):
     """Cells are moved whatever they hold: in other shapes than the page's, and with V and n + 1 exchanged."""
-    page = Archived(maker, classes, with_more(chosen(maker, rng, asked, "end")), SPECIAL[3])
+    page = Archived(maker, classes, with_more(chosen(maker, rng, asked, "failure")), SPECIAL[3])
     for shape in SHAPES:
         page.turn = 1       # of the page's table no more is lent than is due, and the rest stays
         page.store(shape)
@@ -263,8 +269,8 @@ def run_shapes(maker, rng, classes, asked):
 def run_put(maker, rng, classes, q):
     """Cells that no call leaves are moved like others; then they are as before."""
     page, last = Archived(maker, classes, q, SPECIAL[4]), cells_due(q) - 1
-    held = {i: page.table[2 * i:2 * i + 2] for i in (LINE // 2, last)}
-    for i, cell in zip(held, ((FAR, FAR), (0, 7))): page.put(i, cell)
+    held = {i: page.table[2 * i:2 * i + 2] for i in (LINE // 2, LINE, last)}
+    for i, cell in zip(held, ((FAR, FAR), (4, FAR), (0, 7))): page.put(i, cell)
     page.store()
     page.restore()
     page.refused(19)
@@ -321,16 +327,16 @@ def run(maker, asked, classes):
 def check_numbers(tally):
     """What the tables stored by place have to have at least."""
     both, refused = ("stored", "restored"), [f"refused with {x}" for x in (3, 6, 20)]
-    if not 100 <= tally[("archive requests", "in all")] <= 150: stop(f"{tally[('archive requests', 'in all')]} requests with stored tables")
-    for kind, least, names in (("archive chains", 1, (*CHAINS, *SPECIAL)), ("stored outcomes", 3, HELD), ("stored outcomes", 1, ("each",)),
+    if not 100 <= tally[("archive requests", "in all")] <= 160: stop(f"{tally[('archive requests', 'in all')]} requests with stored tables")
+    for kind, least, names in (("archive chains", 1, (*CHAINS, *SPECIAL)), ("stored outcomes", 2, HELD), ("stored outcomes", 1, ("each",)),
                                *((x, 20, ("done",)) for x in both), *((x, 3, refused) for x in both),
                                ("archive shapes", 1, [f"{x}, {what}" for x in both for what in
                                                       ("V = 1", f"V = {WIDE}", "n = 0", f"n = {MAX_ENTRY}", f"{CELLS} cells")]),
                                ("archive lent", 2, [f"{x} {way} {what}" for x in both for way in ("from", "to") for what in
                                                     ("what is due", "an odd number more")]),
                                ("archive questions", 2, OUTCOMES), ("archive questions", 1, ("refused with 19",)),
-                               ("archive: asked cell", 1, HELD), ("archive: call before", 10, ("restored table",)),
-                               ("archive: waiting", 1, [f"through a kept {x}" for x in ("loop", "missing", "end")]),
+                               ("archive: asked cell", 1, ("blank", *OUTCOMES)), ("archive: call before", 10, ("restored table",)),
+                               ("archive: waiting", 1, [f"through a kept {x}" for x in ("loop", "missing")]),
                                ("archive: newly decided", 2, ("none", "some that are reached"))):
         for name in names:
             if tally[(kind, name)] < least: stop(f"too few {kind}: {name}, {tally[(kind, name)]}")

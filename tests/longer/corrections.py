@@ -4,9 +4,10 @@ table is two numbers, outcome and reach."""
 from making import stop
 from questions import cells_due, generator, variables_of
 
-CHAINS = 3              # at most so many of a kind with an outcome
+CHAINS = 3              # at most so many of a kind with an outcome; one less where a byte is sought at the entry's end
 MOST = 5                # corrections of a chain
-LEFT = {"loop": 14, "missing": 12, "end": 6}    # chains with all corrections left of the named pair
+LEFT = {"loop": 14, "missing": 12}      # chains with all corrections left of the named pair
+OUT_OF_TEXT = 4         # chains of questions that seek a byte at the entry's end
 NEAR = 8                # of so many of a kind with an outcome the shortest and the longest, with all corrections near the end
 MANY = 1000             # where only the cells above c stay, these decide so many cells
 FEWER = 10              # and with a reach, so many times fewer
@@ -14,10 +15,11 @@ PUTS = 2                # chains with numbers put into the table
 PUT_CELLS = 12000       # the table has at most so many cells
 FAR = 99999999          # the largest number of a field
 
-OUTCOMES = ("success", "failure", "loop", "missing", "end")
+OUTCOMES = ("success", "failure", "loop", "missing")
+FOUR = "is a 4"         # which no call leaves
 FAULTS = ("ends one right of n", "ends right of n", "ends one left of its place", "ends left of its place", "reaches one less than its place",
-          "reaches less than its place")
-CELLS = {1: "failure", 2: "loop", 3: "missing", 4: "end"}
+          "reaches less than its place", FOUR)
+CELLS = {1: "failure", 2: "loop", 3: "missing", 4: "4"}
 
 
 def kind_of(q): return q.group.split(":")[0]
@@ -56,6 +58,7 @@ def faults_of(place, outcome, reach, size):
     if end > size: yield "ends one right of n" if end == size + 1 else "ends right of n"
     if 0 <= end < place: yield "ends one left of its place" if end == place - 1 else "ends left of its place"
     if is_result(outcome) and reach < place: yield "reaches one less than its place" if reach == place - 1 else "reaches less than its place"
+    if outcome == 4: yield FOUR
 
 
 def faults(table, variables, size, c):
@@ -82,7 +85,7 @@ class Chain:
 
     def retained(self, before):
         """What is met among the cells whose pairs the question reaches: the outcomes of the retained ones, of those that only their reach
-        retains, and a reach of c or c + 1 at a place up to c."""
+        retains, a failure at n, and a reach of c or c + 1 at a place up to c."""
         e, width, c = self.maker.reference.eval(self.q), len(self.q.entry) + 1, self.c
         met = set()
         for variable, place in e.reached(self.q.variable, self.q.place):
@@ -92,6 +95,7 @@ class Chain:
             if outcome == 0 or not stays(place, outcome, reach, c): continue
             if (outcome, reach) != (e.cell(variable, place), e.reach(variable, place)): stop(f"a retained cell is not its pair's: {self.q}")
             met.add(("retained, reached", CELLS.get(outcome, "success")))
+            if outcome == 1 and place == width - 1: met.add(("retained, reached", "failure at n"))
             if place <= c: met.add(("by reach, reached", CELLS.get(outcome, "success")))
         return met
 
@@ -192,7 +196,7 @@ def other_width(maker, asked, what):
     """Corrections over tables of entries that have one byte more, whose retained cells have this fault alone."""
     count = 0
     for q, outcome in asked:
-        if outcome == "refused" or len(q.entry) > 700: continue
+        if outcome == "refused" or not 2 < len(q.entry) <= 700: continue
         entry, table = q.entry[:-1], maker.reference.question(q)[1]
         size = len(entry)
         places = [c for c in (0, size // 2, size - 2, size - 1) if {x[0] for x in faults(table, variables_of(q.sheet), size, c)} == {what}]
@@ -232,26 +236,71 @@ def wrong_and_right(chain, c, above, what, at, x):
     chain.put(at, before)
 
 
+def retained_fours(rng, chain, c):
+    """Cells right of the byte: a success, a failure, the next place, the last place, the last cell of all."""
+    width, due = len(chain.q.entry) + 1, cells_due(chain.q)
+    row = width * rng.randrange(due // width)
+    results_above = [rng.choice(results(chain.q, c, chain.table, True, successes))[0] for successes in (True, False)]
+    return [*results_above, 2 * (row + c + 1), 2 * (row + width - 1), 2 * (due - 1)]
+
+
+def blanked_cells(rng, chain, c):
+    """Cells left of the byte that do not stay, at the first place, at one between and at the byte's own, not blank where there are such."""
+    found = list(enumerate(cells(chain.table, cells_due(chain.q), len(chain.q.entry) + 1)))
+    for what, low, high in (("first place", 0, 0), ("place between", 1, c - 1), ("place c", c, c)):
+        gone = [(2 * i, outcome) for i, (place, outcome, reach) in found if low <= place <= high and not stays(place, outcome, reach, c)]
+        yield what, rng.choice([at for at, outcome in gone if outcome] or [at for at, _ in gone])
+
+
+def run_fours(rng, chain, c, count):
+    """A 4 that is retained is refused, wherever it stands, in so many cells. One that is blanked is not; where another number would not have
+    stayed either, the answer is the one over the kept table. Where a result would have stayed no more is promised: there a place right of the
+    byte is asked, from which no such cell is met, and then the cell is as before."""
+    for at in retained_fours(rng, chain, c)[:count]: wrong_and_right(chain, c, True, FOUR, at, 4)
+    for what, at in blanked_cells(rng, chain, c): blanked_four(rng, chain, c, what, at, chain.first.place)
+    for what, successes in (("success by reach", True), ("failure by reach", False)):
+        at = rng.choice(results(chain.q, c, chain.table, False, successes))[0]
+        cell = chain.table[at:at + 2]
+        blanked_four(rng, chain, c, what, at, c + 1)
+        if chain.table[at:at + 2] != [0, 0]: stop(f"a 4 is not blanked: {chain.q}")
+        for i in (0, 1): chain.put(at + i, cell[i])
+
+
+def blanked_four(rng, chain, c, what, at, place):
+    """A cell is made a 4, and the byte is corrected."""
+    chain.put(at, 4)
+    chain.correct(c, byte_for(rng, chain, c), chain.first.variable, place)
+    if chain.maker.reference.refused(chain.found): stop(f"a 4 that is blanked is refused: {chain.q}")
+    chain.maker.tally[("4 blanked", what)] += 1
+
+
 def run_puts(maker, rng, kept):
-    """Each fault alone, in a success and in a failure, right of the byte and left of it; then a correction."""
+    """Each fault alone, in a success and in a failure, right of the byte and left of it; 4s; then a correction."""
     def has_all(q):
         table, c = maker.reference.question(q)[1], len(q.entry) // 2
         return all(results(q, c, table, above, successes) for above in (True, False) for successes in (True, False))
-    for q in rng.sample([q for q in kept if maker.found[q].count >= MANY and cells_due(q) <= PUT_CELLS and has_all(q)], PUTS):
+    fit = [q for q in kept if maker.found[q].count >= MANY and cells_due(q) <= PUT_CELLS and has_all(q)]
+    for turn, q in enumerate(rng.sample(fit, PUTS)):
         chain, c = Chain(maker, q), len(q.entry) // 2
         for above in (True, False):
             for one in one_number(rng, chain, c, above): wrong_and_right(chain, c, above, *one)
+        run_fours(rng, chain, c, 2 if turn else 5)
         correct_once(rng, chain, len(q.entry))
 
 
 # ---------------------------------------------------------------- chains
 
-def chosen(rng, asked):
-    """Questions of each kind with each outcome."""
+def grouped(maker, asked):
+    """The questions that have a byte to be corrected, by kind and outcome, apart where a byte is sought at the entry's end."""
     groups = {}
     for q, outcome in asked:
-        if outcome != "refused": groups.setdefault((kind_of(q), outcome), []).append(q)
-    for group in groups.values(): yield from rng.sample(group, min(CHAINS, len(group)))
+        if outcome != "refused" and q.entry: groups.setdefault((kind_of(q), outcome, q in maker.out_of_text), []).append(q)
+    return groups
+
+
+def chosen(maker, rng, asked):
+    """Questions of each kind with each outcome."""
+    for (*_, at_end), group in grouped(maker, asked).items(): yield from rng.sample(group, min(CHAINS - at_end, len(group)))
 
 
 def run_chosen(maker, rng, kept):
@@ -268,6 +317,13 @@ def run_left(maker, rng, asked):
         for q, place in rng.sample([x for x in named if x[1] > 0], count):
             chain = Chain(maker, q)
             for _ in range(3): correct_once(rng, chain, place)
+
+
+def run_out_of_text(maker, rng, asked):
+    """Corrections of entries at whose end a byte is sought: its failure is retained."""
+    for q in rng.sample([q for q, outcome in asked if q in maker.out_of_text and outcome in ("success", "failure") and q.entry], OUT_OF_TEXT):
+        chain = Chain(maker, q)
+        for _ in range(3): correct_once(rng, chain, len(q.entry))
 
 
 def far_fewer(count, without): return without >= MANY and FEWER * count <= without
@@ -296,7 +352,7 @@ def run_near_end(maker, rng, asked):
     groups = {}
     for q, outcome in asked:
         if outcome != "refused" and maker.found[q].count >= MANY:
-            groups.setdefault((kind_of(q), outcome, q.x > 2 * cells_due(q)), []).append(q)
+            groups.setdefault((kind_of(q), outcome, q in maker.out_of_text, q.x > 2 * cells_due(q)), []).append(q)
     for group in groups.values():
         found = sorted([q for q in rng.sample(group, min(NEAR, len(group))) if saves(maker, q)], key=cells_due)
         for q in found[:1] + found[1:][-1:]:
@@ -316,9 +372,10 @@ def run_short(maker, rng, kept):
 
 def run(maker, asked):
     rng = generator("corrections")
-    kept = list(chosen(rng, asked))
+    kept = list(chosen(maker, rng, asked))
     run_chosen(maker, rng, kept)
     run_left(maker, rng, asked)
+    run_out_of_text(maker, rng, asked)
     run_near_end(maker, rng, asked)
     run_short(maker, rng, kept)
     many_faults(maker, rng.choice(kept))
@@ -333,11 +390,14 @@ def check_numbers(tally):
     if not 300 <= count <= 600: stop(f"{count} corrections")
     for outcome in OUTCOMES:
         if tally[("corrections", outcome)] < 20: stop(f"too few corrections with outcome {outcome}")
+    for outcome in (*OUTCOMES, "failure at n"):
         if tally[("retained, reached", outcome)] < 10: stop(f"too few corrections that reach a retained {outcome}")
     for kind, names in (("corrected byte", ("first", "last", "between", "the same again")),
                         ("asked place", ("left of the byte", "at the byte", "right of the byte")),
                         ("corrections", [f"refused with {x}" for x in (1, 2, 3, 4, 5, 6, 8, 9, 10, 18, 19)]),
-                        ("refused with 19", [f"{what}, {where}" for what in FAULTS for where in ("above c", "up to c")]),
+                        ("refused with 19", [f"{what}, {where}" for what in FAULTS for where in ("above c", "up to c")
+                                             if (what, where) != (FOUR, "up to c")]),
+                        ("4 blanked", ("first place", "place between", "place c", "success by reach", "failure by reach")),
                         ("by reach, reached", ("success", "failure")), ("reach", ("c, retained", "c + 1, blanked")),
                         ("near the end", ("c = n - 1", "c = n - 2", "no cell"))):
         for name in names:

@@ -1,14 +1,15 @@
 """A direct evaluation, written apart from reader.py, which must agree with it."""
 
 FAILED = -1             # in place of an end
-CELLS = {"loop": 2, "missing": 3, "end": 4}
+CELLS = {"loop": 2, "missing": 3}
 
 
 class Direct:
     """A pair, the start variable at place 0 unless another is given, with a stack of the pairs that wait. `outcome` is what it comes to,
-    `end` where a success ends, `named` the pair that a loop, a missing rule and the entry's end have. `results` has end and reach of each
-    pair that was decided, `waiting` the pairs that were not, `looked` counts the first bytes up to the last one looked at. A pair that
-    would wait twice loops; that, a missing rule and the entry's end are the outcome of all that wait."""
+    `end` where a success ends, `named` the pair that a loop and a missing rule have. `results` has end and reach of each pair that was
+    decided, `waiting` the pairs that were not. `looked` is the greatest reach of a byte or class rule: one more than the entry has bytes,
+    where a byte was sought at its end, which fails. A pair that would wait twice loops; that and a missing rule are the outcome of all
+    that wait."""
 
     def __init__(self, sheet, entry, classes, pair=None):
         lines = [[int(sheet[i + 5 * k:i + 5 * k + 5]) for k in range(5)] for i in range(0, len(sheet), 26)]
@@ -33,9 +34,7 @@ class Direct:
                     self.waiting[called] = True
                     continue
                 result = self.joined((operands[0], place), called)
-            else:
-                if kind > 1 and place == len(self.entry): return "end"
-                result = self.leaf(kind, operands[0], place)
+            else: result = self.leaf(kind, operands[0], place)
             self.results[pair] = result
             self.waiting.popitem()
         self.named = None
@@ -57,6 +56,7 @@ class Direct:
     def leaf(self, kind, operand, place):
         if kind < 2: return (place if kind == 0 else FAILED), place
         self.looked = max(self.looked, place + 1)
+        if place == len(self.entry): return FAILED, place + 1
         byte = self.entry[place]
         return (place + 1 if operand == (byte if kind == 2 else self.classes[byte]) else FAILED), place + 1
 

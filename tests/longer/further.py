@@ -7,21 +7,22 @@ cells were blank before, and every cell of the table. A fresh question must have
 corrections, over the cells that stay; the old entry that a correction shows is the one of which the table is. Two further
 questions are asked in both orders: tables, answers and the sum of the counts must be the same, and from a blank table that sum is the
 number of pairs reached from either."""
-from corrections import CELLS, FAR, FAULTS, OUTCOMES, byte_for, byte_place, cells, faults, kind_of, stays, with_byte
-from direct import Direct
+from corrections import CELLS, FAR, FAULTS, FOUR, OUTCOMES, byte_for, byte_place, cells, faults, grouped, kind_of, stays, with_byte
+from direct import FAILED, Direct
 from making import stop
 from questions import (NUMBERS, cells_due, generator, hidden_left, left_sums, no_rule, own_first, question, variables_of, words_text,
                        words_with_mark)
 from sheets import NATURAL
 
 MOST = 8                # calls of a chain
-WAITING = 6             # chains behind a loop, a missing rule and an entry's end each
+WAITING = 6             # chains behind a loop, a missing rule and a failure at the entry's end each
 TRIES = 12              # pairs that are looked at for one that fits
 ORDERS = 10             # chains whose last two further questions are asked in both orders, and as many from a blank table
 PUT_CELLS = 6000        # the table into which numbers are put has at most so many cells
 PUT_DECIDED = 40        # of which at least so many are decided
 LINE = 20, 80           # bytes of a line of a register
 LINES = 10              # of so many lines a chain is begun, and in both orders of so many
+BEHIND_END = "behind a kept failure at n"
 
 
 def holds(outcome): return CELLS.get(outcome, "success") if outcome else "blank"
@@ -103,6 +104,8 @@ class Page:
         for held in kept: self.tally("waiting", f"through a kept {held}")
         if kept and self.cell(pair)[0] == 0: self.tally("waiting", "from a blank cell to a kept one")
         if direct.named and direct.named != pair: self.tally("waiting", "another pair named than asked")
+        for held in {holds(self.cell(x)[0]) for x, result in direct.results.items() if x[1] == size and result == (FAILED, size + 1)}:
+            self.tally("failure at n", "newly decided" if held == "blank" else "kept")
 
     def correct(self, c, byte, pair):
         """Makes the byte at c another, and asks about a pair; the kept entry as it was is shown."""
@@ -173,12 +176,14 @@ def called_by_table(page, pair):
 
 
 def fits(page, pair):
-    """What a pair's cell holds; where it is blank, what the cell of the pair holds that it waits for."""
+    """What a pair's cell holds; where it is blank, what the cell of the pair holds that it waits for, or that its first called pair fails
+    at the entry's end."""
     held = holds(page.cell(pair)[0])
     if held != "blank": return held
     called = called_by_table(page, pair)
-    waits = called is not None and page.cell(called)[0] in (2, 3, 4)
-    return "waits for a kept " + holds(page.cell(called)[0]) if waits else "blank"
+    if called is None: return "blank"
+    if page.cell(called)[0] in (2, 3): return "waits for a kept " + holds(page.cell(called)[0])
+    return BEHIND_END if pair[1] == len(page.q.entry) and page.cell((page.rules[pair[0]][1], pair[1]))[0] == 1 else "blank"
 
 
 def pair_for(rng, page, wanted=None):
@@ -211,12 +216,9 @@ def lines(rng):
         yield question("line: behind a mark", words_with_mark(mark, behind), words_text(size, mark.encode(), rng.randrange(size - 1)))
 
 
-def chosen(rng, asked):
+def chosen(maker, rng, asked):
     """A question of each kind with each outcome."""
-    groups = {}
-    for q, outcome in asked:
-        if outcome != "refused": groups.setdefault((kind_of(q), outcome), []).append(q)
-    for group in groups.values(): yield rng.choice(group)
+    for group in grouped(maker, asked).values(): yield rng.choice(group)
 
 
 def with_more(q):
@@ -248,15 +250,21 @@ def run_chains(maker, rng, classes, pages):
 
 
 def run_waiting(maker, rng, classes, asked):
-    """Behind a loop, a missing rule or an entry's end: pairs that wait for its cells, and those whose cells they are; then with a byte of
-    the entry corrected."""
-    for wanted in ("loop", "missing", "end"):
-        for q in rng.sample([q for q, outcome in asked if outcome == wanted and len(q.entry) > 1], WAITING):
-            page = Page(maker, classes, q)
-            fit = f"waits for a kept {wanted}", wanted
-            for what in fit: page.ask(pair_for(rng, page, what))
-            correct_once(rng, page)
-            for what in fit: page.ask(pair_for(rng, page, what))
+    """Behind a loop, a missing rule or a failure at the entry's end: pairs that wait for its cells, and those whose cells they are; then
+    with a byte of the entry corrected."""
+    asked = [(q, outcome) for q, outcome in asked if len(q.entry) > 1]
+    for wanted in ("loop", "missing"):
+        fit = [q for q, outcome in asked if outcome == wanted]
+        run_behind(maker, rng, classes, fit, f"waits for a kept {wanted}", wanted)
+    run_behind(maker, rng, classes, [q for q, outcome in asked if outcome == "failure" and q in maker.out_of_text], BEHIND_END, "failure")
+
+
+def run_behind(maker, rng, classes, pages, *wanted):
+    for q in rng.sample(pages, WAITING):
+        page = Page(maker, classes, q)
+        for what in wanted: page.ask(pair_for(rng, page, what))
+        correct_once(rng, page)
+        for what in wanted: page.ask(pair_for(rng, page, what))
 
 
 def in_both_orders(maker, rng, classes, q, blank, calls):
@@ -299,6 +307,8 @@ def wrong_cells(place, size):
     if place > 1:
         yield "ends left of its place", (5, size)
         yield "reaches less than its place", (1, 0)
+    yield FOUR, (4, 0)
+    yield FOUR, (4, size + 1)
 
 
 def other_cells(place, size):
@@ -311,7 +321,6 @@ def other_cells(place, size):
     yield "blank with a reach", (0, 7)
     yield "loop with a reach", (2, 9)
     yield "missing with a reach", (3, FAR)
-    yield "end with a reach", (4, 1)
 
 
 def wrong_and_right(page, name, i, what, cell):
@@ -336,11 +345,12 @@ def spots(page):
 
 
 def run_wrong(page, turn):
-    """Faults in turn at these cells, and every fault at the last cell."""
+    """Faults in turn at these cells, and every fault at the last cell; in the first page a 4 at each."""
     size = len(page.q.entry)
     for k, (name, i) in enumerate(spots(page)):
         every = list(wrong_cells(i % (size + 1), size))
         some = every if name == "last cell" else [every[(2 * k + turn + x) % len(every)] for x in (0, 1)]
+        if turn == 0 and FOUR not in dict(some): some.append((FOUR, (4, 0)))
         for what, cell in some: wrong_and_right(page, name, i, what, cell)
 
 
@@ -402,7 +412,7 @@ def one_fault(maker, rng, classes, q):
 
 def run(maker, asked, classes):
     rng = generator("further questions")
-    pages, short = list(chosen(rng, asked)), list(lines(rng))
+    pages, short = list(chosen(maker, rng, asked)), list(lines(rng))
     run_chains(maker, rng, classes, pages + rng.sample(short, LINES))
     run_waiting(maker, rng, classes, asked)
     run_orders(maker, rng, classes, pages + rng.sample(short, LINES))
@@ -413,7 +423,7 @@ def run(maker, asked, classes):
 
 def check_numbers(tally):
     """What the further questions have to have at least."""
-    for kind, least, most in (("further questions", 250, 400), ("further chains", 80, 130)):
+    for kind, least, most in (("further questions", 250, 450), ("further chains", 80, 130)):
         count = sum(x for (k, _), x in tally.items() if k == kind)
         if not least <= count <= most: stop(f"{count} {kind}")
     for kind, least, names in (("further questions", 20, OUTCOMES), ("asked cell", 8, ("blank", *OUTCOMES)),
@@ -421,10 +431,11 @@ def check_numbers(tally):
                                ("further's entry", 60, ("200 to 4096 bytes", "20 to 80 bytes")),
                                ("call before", 20, ("question", "blank table", "further question", "correction")),
                                ("newly decided", 20, ("none", "some that are reached", "all that are reached")),
-                               ("waiting", 10, [f"through a kept {x}" for x in ("loop", "missing", "end")]),
-                               ("waiting", 20, ("from a blank cell to a kept one", "another pair named than asked")),
+                               ("waiting", 10, [f"through a kept {x}" for x in ("loop", "missing")]),
+                               ("waiting", 12, ("from a blank cell to a kept one",)), ("waiting", 20, ("another pair named than asked",)),
+                               ("failure at n", 10, ("newly decided", "kept")),
                                ("both orders", 2, [f"behind a {x}" for x in ("question", "blank table", "further question", "correction")]),
-                               ("further 19", 2, FAULTS), ("19 at", 2, ("first cell", "middle", "last cell")),
+                               ("further 19", 2, FAULTS), ("further 19", 10, (FOUR,)), ("19 at", 2, ("first cell", "middle", "last cell")),
                                ("19 at", 1, ("place 15 of a blank row", "place 16 of a blank row"))):
         for name in names:
             if tally[(kind, name)] < least: stop(f"too few {kind}: {name}, {tally[(kind, name)]}")

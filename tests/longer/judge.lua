@@ -5,10 +5,10 @@
 -- CLASSES are the ranges of bytes with their classes, as 48-57:1,9:4 and so on; a byte in none has class 0. SHEET and ENTRY are files;
 -- the sheet is one that is accepted. With PLACE "-" the rules are only compiled. It prints one line:
 --
---   success END | failure | end VARIABLE PLACE | missing VARIABLE PLACE | left recursion | accepted
+--   success END | failure | missing VARIABLE PLACE | left recursion | accepted
 --
--- A kind 4 rule A -> B(C,D) is the LPeg rule  A <- B C / !B D.  A byte or class rule at the entry's end, and a variable without a rule,
--- stop the whole match by an error that says the variable and the place.
+-- A kind 4 rule A -> B(C,D) is the LPeg rule  A <- B C / !B D.  Where D always fails that is  B C,  and where C always succeeds  B / D,  which
+-- try B once only. A variable without a rule stops the whole match by an error that says the variable and the place.
 local lpeg = require "lpeg"
 lpeg.setmaxstack(20000000)
 
@@ -49,23 +49,22 @@ local function read_rules(sheet)
 end
 
 -- Stops the whole match. The pattern never succeeds, so LPeg's test for left recursion does not take it for one that matches nothing.
-local function stop(outcome, name)
-  return lpeg.Cmt(lpeg.P(true), function(_, at)
-    error({ outcome = outcome, variable = name, place = at - 1 })
-  end) * lpeg.P(false)
+local function missing(name)
+  return lpeg.Cmt(lpeg.P(true), function(_, at) error({ variable = name, place = at - 1 }) end) * lpeg.P(false)
 end
 
-local function one_byte(pattern, name)
-  return -lpeg.P(1) * stop("end", name) + pattern
-end
+local function is_kind(rule, kind) return rule and rule.kind == kind end
 
-local function pattern_of(rule, name, patterns)
-  if not rule then return stop("missing", name) end
+local function pattern_of(rules, name, patterns)
+  local rule = rules[name]
+  if not rule then return missing(name) end
   if rule.kind == 0 then return lpeg.P(true) end
   if rule.kind == 1 then return lpeg.P(false) end
-  if rule.kind == 2 then return one_byte(lpeg.P(string.char(rule[1])), name) end
-  if rule.kind == 3 then return one_byte(patterns[rule[1]], name) end
+  if rule.kind == 2 then return lpeg.P(string.char(rule[1])) end
+  if rule.kind == 3 then return patterns[rule[1]] end
   local b, c, d = lpeg.V("v" .. rule[1]), lpeg.V("v" .. rule[2]), lpeg.V("v" .. rule[3])
+  if is_kind(rules[rule[3]], 1) then return b * c end
+  if is_kind(rules[rule[2]], 0) then return b + d end
   return b * c + -b * d
 end
 
@@ -76,7 +75,7 @@ local function grammar_from(start, rules, patterns)
     local name = table.remove(waiting)
     if not grammar["v" .. name] then
       local rule = rules[name]
-      grammar["v" .. name] = pattern_of(rule, name, patterns)
+      grammar["v" .. name] = pattern_of(rules, name, patterns)
       if rule and rule.kind == 4 then
         for operand = 1, 3 do waiting[#waiting + 1] = rule[operand] end
       end
@@ -100,7 +99,7 @@ end
 local matched, result = pcall(lpeg.match, pattern, read_file(entry_file), tonumber(place) + 1)
 if not matched then
   assert(type(result) == "table", result)
-  print(result.outcome, result.variable, result.place)
+  print("missing", result.variable, result.place)
 elseif result then
   print("success", result - 1)
 else

@@ -5,12 +5,12 @@
 
 READER is an implementation of documents 01 and 02 in Python, reader.py, made apart from this repository. RANGES are the classes of the
 bytes, or a file with them, as 48-57:1,9:4 and so on; a byte in none has class 0. The default is document 01's with document 02's order 5, and
-reader.py's own classes must agree with it; all else is as of order 10. lua5.4 and lua-lpeg are installed from Debian where they are absent. It
+reader.py's own classes must agree with it; all else is as of order 11. lua5.4 and lua-lpeg are installed from Debian where they are absent. It
 is run by hand; a second run writes the same bytes.
 
 What comes from where:
-  LPeg (judge.lua)  outcome and end of each question whose rules LPeg takes, and the named pair of missing and end. It refuses rules
-                    that may be left recursive. Each match is a process of its own with a limit of time, which ends this script.
+  LPeg (judge.lua)  outcome and end of each question whose rules LPeg takes, and the named pair of missing. It refuses rules that may
+                    be left recursive. Each match is a process of its own with a limit of time, which ends this script.
   reader.py         loops; outcome and end where LPeg refuses the rules or would take too many calls; counts, tables, refusals,
                     the machine's runs, readings and what the checker says of them; corrections (corrections.py), with the
                     document's sentence on 21 beside it; openings (openings.py) and further questions (further.py), with a direct
@@ -44,8 +44,7 @@ CRATE = os.path.join(HERE, "..", "..", "crates", "test_questions")
 
 CLASSES = ("48-57:1,65-90:2,97-122:3,9:4,32:4,33-47:5,58-64:5,91-96:5,123-126:5,"
            "192-214:2,216-222:2,223-246:3,248-255:3,160:4,161-191:5,215:5,247:5,128-159:6")
-ORDER = 10              # reader.py answers as of this order of document 02
-NO_REACH = 4            # as of this one only cells above the corrected byte stay
+ORDER = 11              # reader.py answers as of this order of document 02
 
 FILE_BYTES = 262144     # the program's buffers
 OUTPUT_BYTES = 262144
@@ -57,7 +56,7 @@ PLACES = 8192           # x of a correction that shows an old entry of its own i
 # Tasks of a request, and kinds of answers beside them.
 QUESTION, MACHINE, READING, DAMAGE, KEPT, CORRECTION, PUT, OPENING, FURTHER, BLANK, STORE, RESTORE, SHOWN, EDIT = range(14)
 WRITER, CHECKER, END, CORRECTED, BEFORE, OPENED, ASKED, BLANKED, STORED, RESTORED, EDITED = 2, 3, 5, 6, 7, 8, 9, 10, 11, 12, 13
-CODES = {"success": 0, "failure": 1, "loop": 2, "missing": 3, "end": 4, "spent": 6, "no frame": 7}
+CODES = {"success": 0, "failure": 1, "loop": 2, "missing": 3, "spent": 6, "no frame": 7}
 DONE, NO_OPENING, REFUSED = 0, 8, 9
 
 LPEG_CALLS = 3000000    # LPeg is asked where it takes at most so many calls
@@ -159,8 +158,8 @@ class Reference:
 
     def decided_without_reach(self, q, c, table):
         """How many cells the same correction decides where only cells at places above c stay."""
-        outcomes = table[::2]
-        return self.module.correct(q.sheet, q.entry, q.variable, q.place, outcomes, outcomes[:], c, order=NO_REACH).count
+        width, reached = len(q.entry) + 1, self.eval(q).reached(q.variable, q.place)
+        return sum(place <= c or table[2 * ((variable - 1) * width + place)] == 0 for variable, place in reached)
 
     def reading(self, q, x, y):
         """What the writer answers over a table of x numbers, and its output of y bytes."""
@@ -181,16 +180,22 @@ class Reference:
         return met
 
     def lpeg_calls(self, q):
-        """How many calls `A <- B C / !B D` takes without a table: B is called again where it fails, and where C fails."""
+        """How many calls judge.lua's rules take without a table: B is called again where it fails and where C fails, except where D always
+        fails or C always succeeds."""
         e, calls = self.eval(q), {}
         for pair in e.postorder(q.variable, q.place):
             called = e.called(*pair)
             total = 1 + sum(calls[x] for x in called)
-            if len(called) == 2:
+            if len(called) == 2 and not tried_once(e.sheet.rules, *e.sheet.rules[pair[0]]):
                 ended = e.out(*called[0]).kind == "success" and e.out(*called[1]).kind != "failure"
                 total += 0 if ended else calls[called[0]]
             calls[pair] = total
         return calls[(q.variable, q.place)]
+
+
+def tried_once(rules, kind, b, c, d):
+    """Is B of A -> B(C,D) tried once only in judge.lua?"""
+    return rules.get(c) == (0, 0, 0, 0) or rules.get(d) == (1, 0, 0, 0)
 
 
 # ---------------------------------------------------------------- files
@@ -252,6 +257,7 @@ class Maker:
     def __init__(self, reference, judge):
         self.reference, self.judge, self.files = reference, judge, Files()
         self.sources, self.further_sources, self.tally, self.bytes_met, self.found = [], [], collections.Counter(), set(), {}
+        self.out_of_text = set()        # questions that seek a byte at the entry's end
 
     def judged(self, q, found):
         """Outcome, end, named pair, and who says so."""
@@ -275,6 +281,7 @@ class Maker:
             variable, place = named or (0, end or 0)
             four = CODES[outcome], variable, place, found.count
             self.note_classes(q)
+            self.note_end(q, outcome, table)
         self.files.answer(number, QUESTION, *four, summed(table))
         self.note(number, q, outcome, source)
         return outcome
@@ -292,6 +299,12 @@ class Maker:
         for c, accepted in {(c, accepted) for c, b, accepted in met}:
             self.tally[("byte from 128", f"class {c}, {accepted_or_refused(accepted)}")] += 1
         self.bytes_met |= {(b, accepted) for c, b, accepted in met}
+
+    def note_end(self, q, outcome, table):
+        """Is a byte sought at the entry's end? Its cell reaches one past the end."""
+        if max(table[1:2 * cells_due(q):2]) <= len(q.entry): return
+        self.out_of_text.add(q)
+        self.tally[("out of text", outcome)] += 1
 
     # The machine.
 
@@ -496,12 +509,13 @@ def run_readings(maker, asked):
 def summary(maker, sizes, ranges):
     out = [f"Questions: {len(maker.sources)}. Requests: {len(maker.files.requests)}. Classes: {ranges}",
            f"Bytes of sheets.txt, entries, questions.txt: {sizes[0]}, {sizes[1]}, {sizes[2]}.", ""]
-    for kind in ("kind", "outcome", "source", "outcome and judge", "entry", "byte from 128", "tasks", "machine", "damaged readings", "chains",
-                 "corrections", "correction judge", "corrected byte", "asked place", "retained, reached", "by reach, reached", "reach",
-                 "near the end", "refused with 19", "puts", "openings", "opening kind", "opening's entry", "least opening", "m, named place",
+    for kind in ("kind", "outcome", "source", "outcome and judge", "out of text", "entry", "byte from 128", "tasks", "machine",
+                 "damaged readings", "chains", "corrections", "correction judge", "corrected byte", "asked place", "retained, reached",
+                 "by reach, reached", "reach", "near the end", "refused with 19", "4 blanked", "puts", "openings", "opening kind",
+                 "opening's entry", "opening's endmarker", "least opening", "m, named place", "shorter openings", "all openings",
                  "opening judge", "further chains", "further questions", "further question judge", "further's entry", "asked cell",
-                 "call before", "newly decided", "waiting", "both orders", "further's corrections", "further's correction judge",
-                 "further 19", "19 at", "taken", *archive.KINDS, *shown.KINDS):
+                 "call before", "newly decided", "waiting", "failure at n", "both orders", "further's corrections",
+                 "further's correction judge", "further 19", "19 at", "taken", *archive.KINDS, *shown.KINDS):
         for (k, name), count in sorted(maker.tally.items()):
             if k == kind: out.append(f"{kind:17} {count:6}  {name}")
         out.append("")
@@ -511,14 +525,16 @@ def summary(maker, sizes, ranges):
 HEAD = """Where the expected answers of crates/test_questions come from; written by make.py.
 
 A line for each question: its line in questions.txt, V, the entry's length, variable, place, outcome, the judge of outcome and end, and
-its group. Judged by LPeg: outcome, end and the pair of missing and end are LPeg's, and reader.py agrees. The count of cells and the
-table's sum, over outcomes and reaches, are always reader.py's, and so are all answers of the machine, the writer and the checker.
-Corrections have no lines here; their answers are reader.py's, and LPeg agrees on outcome, end and the pair of missing and end where it is
-named as their judge. Whether 21 is due, the document's sentence, written down in corrections.py, says too of each of them. Of the
-corrections near the end, the cells without the reach are those that reader.py decides newly as of order 4.
+its group. Judged by LPeg: outcome, end and the pair of missing are LPeg's, and reader.py agrees. The count of cells and the table's sum,
+over outcomes and reaches, are always reader.py's, and so are all answers of the machine, the writer and the checker. Out of text are the
+questions in which a byte is sought at the entry's end, where it fails.
+Corrections have no lines here; their answers are reader.py's, and LPeg agrees on outcome, end and the pair of missing where it is named as
+their judge. Whether 21 is due, the document's sentence, written down in corrections.py, says too of each of them. Of the corrections near
+the end, the cells without the reach are those of reached pairs that would be decided newly if only the places above c stayed.
 Openings have no lines either. Least openings, which LPeg cannot judge, are reader.py's; the direct evaluation of direct.py agrees, of the
-whole entry, of the least opening and of the one that is a byte shorter. Where there is none LPeg agrees on the verdict's outcome and end,
-if it is named as the judge.
+whole entry, of the least opening and of the shorter ones, or every so many of them. Where there is none LPeg agrees on the verdict's
+outcome and end, if it is named as the judge. All openings, up to the whole entry, are looked at by the direct evaluation where they are not
+too many.
 Further questions have lines of their own behind those of the questions, with what the asked cell holds before the call. The direct
 evaluation agrees with every answer of theirs that is no refusal, with the count and with the whole table, and so it does with the
 corrections between them.
@@ -542,12 +558,14 @@ def check_numbers(maker):
     """What the test has to have at least."""
     count = len(maker.sources)
     if not 300 <= count <= 700: stop(f"{count} questions")
-    for outcome in ("success", "failure", "loop", "missing", "end", "refused"):
+    for outcome in ("success", "failure", "loop", "missing", "refused"):
         if maker.tally[("outcome", outcome)] < 20: stop(f"too few questions with outcome {outcome}")
     if 2 * maker.tally[("source", "LPeg")] <= count: stop("LPeg judges less than half of the questions")
     for b in [b for b in range(128, 256) if maker.reference.module.class_of(b)]:
         for accepted in (True, False):
             if (b, accepted) not in maker.bytes_met: stop(f"byte {b} is never {accepted_or_refused(accepted)} by a class")
+    for outcome, least in (("success", 15), ("failure", 40), ("loop", 5), ("missing", 1)):
+        if maker.tally[("out of text", outcome)] < least: stop(f"too few questions out of text: {outcome}")
     if maker.tally[("tasks", "questions with machine runs")] < 40: stop("too few runs of the machine")
     if maker.tally[("tasks", "readings that pass")] < 40: stop("too few readings")
 

@@ -1,23 +1,26 @@
-"""The openings that already loop. An opening is asked for as a verdict is, at the start variable and place 0 of an entry that ends with the
-endmarker. Questions are taken from the list, of each kind with each verdict; sheets that loop at a chosen place of a page are made here.
+"""The openings that already loop. An opening is asked for as a verdict is, at the start variable and place 0 of an entry, in which the
+endmarker is a byte like others. Questions are taken from the list, of each kind with each verdict; sheets that loop at a chosen place of a
+page are made here, and sheets that loop where the text runs out.
 
-reader.py tries one opening after the other, from the empty one on. The direct evaluation must agree with it: on the verdict, that the
-least opening loops, that the opening of one byte less comes to its end, and that the least opening has as many bytes as the looping entry
-was looked at."""
+reader.py tries one opening after the other, from the empty one on. The direct evaluation must agree with it: on the verdict, that the least
+opening loops, and that the one of a byte less does not, nor any shorter one, or every so many of them where that is too much for it. More
+text can undo a loop: an opening of an entry that does not loop may loop, and a longer opening than the least one may not. The direct
+evaluation looks at all openings for such ones, where they are not too many."""
 from corrections import kind_of
 from direct import Direct
 from making import stop
-from questions import (CELLS, NUMBERS, WIDE, cells_due, dashes, generator, guarded, hidden_left, left_sums, longest, loop_ring, no_rule,
-                       optional_letters, own_first, own_third, question, under_no, wide_ring, widened, words_text, words_with_mark)
+from questions import (CELLS, MAX_ENTRY, NUMBERS, WIDE, cells_due, dashes, generator, guarded, hidden_left, left_sums, longest, loop_ring,
+                       no_rule, optional_letters, own_first, own_third, question, under_no, wide_ring, widened, words_text, words_with_mark)
 from sheets import ALPHABET, NATURAL, Sheet, bent_sheet, free_sheet, random_text
 
 PAIRS = 2500000         # of an opening from the list, reader.py decides at most about so many pairs
+ALL_PAIRS = 200000      # where the direct evaluation looks at openings, it decides at most about so many
 TRIES = 500             # random sheets, and bytes changed of an entry
 RANDOM = 8              # random sheets that loop late
 NONE = 2                # at most so many of a kind with a verdict other than loop
 FAR = 100               # more than so many bytes right of the named place
-VERDICTS = ("recognised", "partial", "failure", "missing", "end")
-REFUSALS = (1, 2, 3, 4, 5, 6, 7, 10)
+VERDICTS = ("recognised", "partial", "failure", "missing")
+REFUSALS = (1, 2, 3, 4, 5, 6, 10)
 PLACES = ("m = 0", "m up to n / 4", "m up to 3n / 4", "m up to n - 2", "m = n - 1", "m = n")
 BEHIND = (own_first, hidden_left, own_third, left_sums, under_no)
 
@@ -30,9 +33,24 @@ def place_of(m, n):
 
 
 def right_of(count):
-    """How far right of the named place a least opening ends."""
+    """How far right of the named place a least opening ends; left of it, where it loops elsewhere than the whole."""
+    if count < 0: return "left of it"
     if count < 2: return ("at it", "one right of it")[count]
     return "right of it" if count <= FAR else "far right of it"
+
+
+def endmarker_in(q):
+    """Where the endmarker stands in an entry."""
+    size, places = len(q.entry), [i for i, b in enumerate(q.entry) if b == int(q.sheet[10:15])]
+    if size == 0: return "empty entry"
+    if not places: return "none"
+    if places == [size - 1]: return "at the end"
+    return "at the end and before" if places[-1] == size - 1 else "before the end"
+
+
+def pairs_of(whole):
+    """How many pairs the direct evaluation reaches."""
+    return len(whole.results) + len(whole.waiting)
 
 
 class Openings:
@@ -48,14 +66,27 @@ class Openings:
         if whole.verdict() != verdict.verdict: stop(f"the direct evaluation says {whole.verdict()}, reader.py {verdict.verdict}: {q}")
         if (whole.outcome == "loop") != (m is not None): stop(f"the direct evaluation says {whole.outcome}, the opening is {m}: {q}")
         self.tally[("opening kind", kind_of(q))] += 1
-        self.tally[("opening's entry", "200 to 4096 bytes" if 200 <= len(q.entry) <= 4096 else "other")] += 1
+        size = len(q.entry)
+        self.tally[("opening's entry", "200 to 4095 bytes" if 200 <= size <= 4095 else f"{size} bytes" if size in (0, 4096) else "other")] += 1
+        self.tally[("opening's endmarker", endmarker_in(q))] += 1
         if verdict.verdict == "loop": self.least(q, whole, m, verdict.named[1])
         else: self.none(q, verdict)
+        self.tally[("all openings", self.look_at_all(q, whole, m))] += 1
+
+    def loops(self, q, m): return self.evaluated(q, m).outcome == "loop"
+
+    def look_at_all(self, q, whole, m):
+        """Whether more text undoes a loop; the least opening is known."""
+        first, size = m or 0, len(q.entry)
+        if (size - first) * pairs_of(whole) > ALL_PAIRS: return "not looked at"
+        if m is None: return "none loops" if not any(self.loops(q, x) for x in range(size)) else "one loops, the whole does not"
+        return "each from the least on loops" if all(self.loops(q, x) for x in range(m, size)) else "a longer one than the least does not loop"
 
     def least(self, q, whole, m, named):
-        shorter = self.evaluated(q, m - 1).outcome if m > 0 else "end"
-        said = whole.looked, self.evaluated(q, m).outcome, shorter
-        if said != (m, "loop", "end"): stop(f"the direct evaluation says {said}, reader.py {m}: {q}")
+        step = 1 + m * pairs_of(whole) // ALL_PAIRS
+        shorter = [x for x in range(m - 1, -1, -step) if self.loops(q, x)]
+        if shorter or not self.loops(q, m): stop(f"the direct evaluation has openings {shorter} before {m}, which is reader.py's: {q}")
+        if m > 0: self.tally[("shorter openings", "each looked at" if step == 1 else "every so many looked at")] += 1
         self.tally[("openings", "least")] += 1
         self.tally[("least opening", place_of(m, len(q.entry)))] += 1
         self.tally[("m, named place", right_of(m - named))] += 1
@@ -85,7 +116,8 @@ def marked():
         sheet, look, name = words_with_mark("?", behind), guarded("?", behind), behind.__name__.replace("_", " ")
         for j, at in enumerate((lambda n: 0, lambda n: n // 7, lambda n: n // 2, lambda n: n - 3, lambda n: n - 2)):
             size = sizes[(i + j) % len(sizes)]
-            yield question(f"loop: {name}", sheet, words_text(size, b"?", at(size)))
+            text = words_text(size, b"?", at(size))
+            yield question(f"loop: {name}", sheet, text[:-1] if j == 4 else text)
         for at in (140, 298): yield question(f"loop: {name} in a lookahead", look, words_text(300, b"?", at))
 
 
@@ -177,6 +209,67 @@ def first_lines():
     for endmarker in (0, 255):
         sheet = with_endmarker(words_with_mark("?", hidden_left), endmarker)
         yield question("loop: another endmarker", sheet, words_text(320, b"?", 100)[:-1] + bytes([endmarker]))
+
+
+# ---------------------------------------------------------------- loops that more text undoes
+
+def undone():
+    """Without an a it loops, and behind an a with a b."""
+    s = Sheet()
+    s.rules = {1: (4, 2, 3, 1), 2: (2, 97), 3: (4, 4, 5, 6), 4: (2, 98), 5: (4, 5, 5, 5), 6: (0,)}
+    s.count = 6
+    return s
+
+
+def by_turns(count):
+    """Dashes, and then letters a: one more than a multiple of a number, and it loops."""
+    s = Sheet()
+    ring, a = [s.new() for _ in range(count)], s.byte("a")
+    s.rules[1] = (4, s.byte("-"), 1, ring[0])
+    for i, v in enumerate(ring): s.rules[v] = (4, a, ring[(i + 1) % count], own_first(s) if i == 1 else s.succeed())
+    return s
+
+
+def open_words():
+    """Words, each with a blank or a full stop behind it; where that is lacking, it loops."""
+    s = Sheet()
+    page, gap, done = s.start, s.new(), s.succeed()
+    s.rules[page] = (4, s.plus(s.cls(3)), gap, done)
+    s.rules[gap] = (4, s.cls(4), page, s.call(s.byte("."), done, own_first(s)))
+    return s
+
+
+def open_remarks():
+    """Words with remarks in braces; where the closing brace is lacking, it loops."""
+    s = Sheet()
+    letter, inner = s.choice(s.cls(3), s.cls(4)), s.new()
+    s.rules[inner] = (4, s.byte("}"), s.succeed(), s.call(letter, inner, own_first(s)))
+    s.rules[1] = (4, s.choice(letter, s.seq(s.byte("{"), inner)), 1, s.byte("."))
+    return s
+
+
+def dashes_and_letters():
+    """How many dashes, and how many letters behind them: the longest entry too, and one byte less."""
+    yield from ((0, 1), (0, 2), (0, 3), (0, 4), (1, 3), (40, 7), (40, 8), (150, 51), (150, 52))
+    for size in (MAX_ENTRY - 1, MAX_ENTRY): yield 99, size - 99
+
+
+def undone_pages():
+    """Entries whose openings loop or do not by turns, with the endmarker at the end, in the middle and without it."""
+    for text in (b"", b"a", b"ab", b"aa", b"b", b"a.", b"ab.", b".", b"ac" * 150, b"ab" * 150): yield question("loop: undone", undone(), text)
+    for before, letters in dashes_and_letters():
+        text = b"-" * before + b"a" * letters
+        yield question("loop: by turns", by_turns(2), text)
+        if before in (40, 150): yield question("loop: by turns", by_turns(3), text)
+        if before == 40:
+            for behind in (b".", b".a"): yield question("loop: by turns", by_turns(2), text + behind)
+    words = words_text(300)
+    for text in (words, words[:-1], words[:words.rindex(b" ") + 1], b"of", b"of ", b"of.", b"", b".", words[:150] + b"." + words[150:]):
+        yield question("loop: open words", open_words(), text)
+    remark = words[:100].replace(b" ", b"{", 1)
+    for text in (words[:90] + b"{" + words[90:130] + b"}" + words[130:], words[:90] + b"{of}" + words[:50] + b"{" + words[:60],
+                 words[:200] + b"{" + words[:9] + b".", remark, remark + b"}.", remark + b"}" + remark):
+        yield question("loop: open remarks", open_remarks(), text)
 
 
 # ---------------------------------------------------------------- natural grammars with a fault
@@ -289,11 +382,10 @@ def closed(entry):
 
 
 def listed(openings, asked):
-    """The questions at the start variable and place 0 about a closed entry, and what the direct evaluation says of them."""
+    """The questions at the start variable and place 0, and what the direct evaluation says of them."""
     seen = set()
     for q, outcome in asked:
-        if outcome == "refused" or (q.variable, q.place) != (1, 0) or not q.entry: continue
-        q = q._replace(entry=closed(q.entry))
+        if outcome == "refused" or (q.variable, q.place) != (1, 0): continue
         if (q.sheet, q.entry) in seen: continue
         seen.add((q.sheet, q.entry))
         yield q, openings.evaluated(q)
@@ -327,15 +419,15 @@ def one_short(openings, q):
 
 
 def not_closed(openings, q):
-    """Entries without the endmarker, with it twice, with it at the wrong place, and an empty one; also with too few numbers."""
+    """Entries without the endmarker, with it twice, with it at another place, and an empty one; without it also with too few numbers."""
     body = q.entry[:-1]
     for entry in (b"", body, q.entry + b".", b"." + body, b"." + q.entry, body[:90] + b"." + body[90:], body[:90] + b"." + q.entry[90:]):
-        openings.refused(7, question(q.group, q.sheet, entry))
-    openings.refused(7, question(q.group, q.sheet, body, x=0, y=0))
+        openings.ask(question(q.group, q.sheet, entry))
+    openings.refused(10, question(q.group, q.sheet, body, x=0, y=0))
 
 
 def too_long(openings, q):
-    """Entries of 4,097 bytes, closed and not, also with too few numbers."""
+    """Entries of 4,097 bytes, with the endmarker at the end and without, also with too few numbers."""
     for entry in (b"a" * 4096 + b".", b"a" * 4097):
         openings.refused(6, question(q.group, q.sheet, entry))
         openings.refused(6, question(q.group, q.sheet, entry, x=0, y=0))
@@ -359,7 +451,7 @@ def run_refused(openings, asked):
 
 def run(maker, asked, classes):
     openings = Openings(maker, classes)
-    made = [*marked(), *runs(), *rings(), *wide_pages(), *far_from_named(), *first_lines()]
+    made = [*marked(), *runs(), *rings(), *wide_pages(), *far_from_named(), *first_lines(), *undone_pages()]
     made += [*natural_pages(openings), *random_pages(openings)]
     for i, q in enumerate(made): openings.ask(with_more(q) if i % 4 == 0 else q)
     run_listed(openings, asked)
@@ -373,3 +465,9 @@ def check_numbers(tally):
     for name in PLACES:
         if tally[("least opening", name)] < 8: stop(f"too few least openings: {name}")
     if tally[("m, named place", "far right of it")] < 4: stop("too few least openings far right of the named place")
+    for kind, least, names in (("all openings", 10, ("one loops, the whole does not", "a longer one than the least does not loop")),
+                               ("all openings", 10, ("none loops", "each from the least on loops")),
+                               ("opening's endmarker", 8, ("none", "at the end", "at the end and before", "before the end")),
+                               ("opening's endmarker", 3, ("empty entry",)), ("opening's entry", 2, ("4096 bytes",))):
+        for name in names:
+            if tally[(kind, name)] < least: stop(f"too few openings: {kind}, {name}, {tally[(kind, name)]}")

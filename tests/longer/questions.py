@@ -237,6 +237,13 @@ def guarded(mark, behind):
 def no_rule(s): return s.new("without rule")
 
 
+def third_missing():
+    """Letters; behind them a rule is missing."""
+    s = Sheet()
+    s.rules[1] = (4, s.cls(3), 1, s.new("without rule"))
+    return s
+
+
 def missing():
     group = "missing: "
     sheet, look = words_with_mark("!", no_rule), guarded("!", no_rule)
@@ -247,10 +254,8 @@ def missing():
         size = min(size, longest(look.count))
         yield question(group + "behind a lookahead", look, words_text(size, b"!", size // 3))
         yield question(group + "lookahead not met", look, words_text(size))
-    third = Sheet()
-    third.rules[1] = (4, third.cls(3), 1, third.new("without rule"))
     for at in (5, 1500, 4000):
-        yield question(group + "third called variable", third, b"a" * at + b"1" + b"a" * (4095 - at))
+        yield question(group + "third called variable", third_missing(), b"a" * at + b"1" + b"a" * (4095 - at))
     alone = Sheet()
     for place in (0, 2000, 4096): yield question(group + "asked itself", alone, b"a" * 4096, 1, place)
     yield question(group + "asked itself", sheet, words_text(300), sheet.names["without rule"], 150)
@@ -451,6 +456,25 @@ def wide():
         yield question("wide: random", sheet, base_text(number)[-longest(WIDE):])
 
 
+# ---------------------------------------------------------------- out of text
+
+def out_of_text():
+    """Empty entries, the last place of others, and entries without a full stop: a byte that is sought at the end fails."""
+    for name in ("dates", "brackets", "shares", "trades", "remarks", "French ages"):
+        yield question("natural: empty entry", NATURAL[name][0](), b"")
+    for sheet in (through_c(), both_sides()): yield question("deep: empty entry", sheet, b"")
+    for sheet in (optional_letters(), dashes(), words_with_mark("?", own_third)): yield question("loop: empty entry", sheet, b"")
+    sheet, text = words_with_mark("!", no_rule), words_text(260)
+    yield question("missing: empty entry", sheet, b"", sheet.names["without rule"])
+    for name in ("word", "marked", "start"): yield question("missing: at the end", sheet, text, sheet.names[name], len(text))
+    yield question("missing: at the end", third_missing(), b"a" * 300)
+    for behind in (own_third, hidden_left): yield question("loop: at the end", words_with_mark("?", behind), text[:-1] + b"?")
+    yield question("loop: at the end", dashes(), b"-" * 300)
+    runs, ages = class_runs(), NATURAL["ages"][0]()
+    for c, place in ((1, 259), (6, 259), (3, 256)): yield question("bytes: at the end", runs, text[:-1], runs.names[f"run {c}"], place)
+    for name, place in (("number", 12), ("age", 8)): yield question("natural: at the end", ages, b"4y 12m, 60y 7", ages.names[name], place)
+
+
 # ---------------------------------------------------------------- numbers lent
 
 def just_enough():
@@ -497,5 +521,6 @@ def all_questions(classes, cheap):
     yield from without_order()
     yield from costly()
     yield from wide()
+    yield from out_of_text()
     yield from lent()
     yield from refused()

@@ -201,9 +201,11 @@ def run(maker, asked, classes):
 
     def begun(name, choices): return Importer(maker, classes, rng.choice(choices), name)
 
-    for turn, outcome in enumerate(OUTCOMES):
-        fit = [q for q, o in asked if o == outcome and 2 < len(q.entry) <= SHORT and maker.found[q].count >= DECIDED]
-        page, c = begin_with_slip(maker, rng, classes, outcome, fit)
+    short = [(q, o) for q, o in asked if o != "refused" and 2 < len(q.entry) <= SHORT and maker.found[q].count >= DECIDED]
+    fit = {outcome: [q for q, o in short if o == outcome] for outcome in OUTCOMES}
+    fit["out of text"] = [q for q, o in short if o == "failure" and q in maker.out_of_text]
+    for turn, (name, pages) in enumerate(fit.items()):
+        page, c = begin_with_slip(maker, rng, classes, name, pages)
         if turn % 2 == 0: show_earlier(rng, page, c)
     taken = [q for q, outcome in asked if outcome != "refused"]
     longest = [q for q in taken if variables_of(q.sheet) > 2 and len(q.entry) == MAX_ENTRY]

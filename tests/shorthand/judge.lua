@@ -5,14 +5,14 @@
 -- Both are files; the text is one that is accepted. For each letter, by first appearance, it prints a line: the letter, and its outcome at each
 -- place of the entry, or "left recursion" where LPeg refuses the rules that the letter comes to. The outcomes are numbers:
 --
---   5 + END success | 1 failure | 3 missing | 4 end
+--   5 + END success | 1 failure | 3 missing
 --
--- A letter is an LPeg rule, a row a sequence, "/" is the choice +, "[c]" is #c, and "%" is the pattern that always fails. A byte at the
--- entry's end, and a letter without a line, stop the whole match by an error that says the outcome.
+-- A letter is an LPeg rule, a row a sequence, "/" is the choice +, "[c]" is #c, and "%" is the pattern that always fails. A letter without a
+-- line stops the whole match by an error.
 local lpeg = require "lpeg"
 lpeg.setmaxstack(1000000)
 
-local FAILURE, MISSING, END, SUCCESS = 1, 3, 4, 5
+local FAILURE, MISSING, SUCCESS = 1, 3, 5
 
 local function read_file(name)
   local file = assert(io.open(name, "rb"))
@@ -61,16 +61,14 @@ local function letters_of(lines)
 end
 
 -- Stops the whole match. The pattern never succeeds, so LPeg's test for left recursion does not take it for one that matches nothing.
-local function stop(outcome)
-  return lpeg.Cmt(lpeg.P(true), function() error({ outcome = outcome }) end) * lpeg.P(false)
-end
+local missing = lpeg.Cmt(lpeg.P(true), function() error({ outcome = MISSING }) end) * lpeg.P(false)
 
 local choice_pattern
 
 local function item_pattern(item)
   local kind, held = item[1], item[2]
   if kind == "letter" then return lpeg.V(held) end
-  if kind == "byte" then return -lpeg.P(1) * stop(END) + lpeg.P(held) end
+  if kind == "byte" then return lpeg.P(held) end
   if kind == "never" then return lpeg.P(false) end
   if kind == "square" then return #choice_pattern(held) end
   return choice_pattern(held)
@@ -95,7 +93,7 @@ local function grammar_from(start, choices)
     local name = table.remove(waiting)
     local rows = choices[name]
     if not rows then
-      grammar[name] = stop(MISSING)
+      grammar[name] = missing
     elseif not grammar[name] then
       grammar[name] = choice_pattern(rows)
       each_letter(rows, function(other) waiting[#waiting + 1] = other end)

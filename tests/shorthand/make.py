@@ -3,8 +3,8 @@
 
     python3 tests/shorthand/make.py --reference READER
 
-READER is an implementation of documents 01 and 02 in Python, reader.py, made apart from this repository. lua5.4 and lua-lpeg are installed
-from Debian where they are absent. It is run by hand; a second run writes the same bytes. The texts are in texts.py.
+READER is an implementation of documents 01 and 02 in Python, reader.py, made apart from this repository; it answers as of order 11. lua5.4
+and lua-lpeg are installed from Debian where they are absent. It is run by hand; a second run writes the same bytes. The texts are in texts.py.
 
 What comes from where:
   texts.py          the number of each refusal, by hand from document 02; reader.py agrees.
@@ -33,7 +33,8 @@ FILE_BYTES = 65536      # the program's buffers
 OUTPUT_BYTES = 8192
 UNTOUCHED = 1           # what the program prints of an output that is unchanged behind the returned length
 
-CODES = {"failure": 1, "loop": 2, "missing": 3, "end": 4}
+ORDER = 11              # reader.py answers as of this order of document 02: a byte at the entry's end fails
+CODES = {"failure": 1, "loop": 2, "missing": 3}
 SUCCESS = 5             # its code is this and the end
 
 LPEG_SECONDS = 60
@@ -81,7 +82,7 @@ class Reference:
     def outcomes(self, text, entry):
         """For each letter its outcomes, read directly."""
         lines = self.module.parse_shorthand(text)
-        direct = self.module.Direct(lines, entry)
+        direct = self.module.Direct(lines, entry, ORDER)
         return {chr(letter): [self.code(direct.letter(letter, place)) for place in range(len(entry) + 1)]
                 for letter in self.module.letters_in_order(lines)}
 
@@ -200,7 +201,7 @@ def write_sources(maker, text):
 def check_numbers(maker):
     """What the test has to have at least."""
     if len(texts.ACCEPTED) < 60: stop("too few texts that are accepted")
-    for outcome in ("success", "failure", "loop", "missing", "end"):
+    for outcome in ("success", "failure", "loop", "missing"):
         if sum(count for (_, name), count in maker.tally.items() if name.startswith(outcome)) < 100: stop(f"too few outcomes {outcome}")
     judged = {judge: sum(count for (_, name), count in maker.tally.items() if name.endswith(judge)) for judge in ("LPeg", "reader.py")}
     if judged["LPeg"] < 4 * judged["reader.py"]: stop("LPeg judges too few outcomes")

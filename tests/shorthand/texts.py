@@ -55,7 +55,7 @@ MISSING = [
     ("missing behind what fails", text_of("A=%B/[%B]C/'a'"), ["ab"]),
     ("missing behind what succeeds", text_of("A=/B", "C='a'/B"), ["ab"]),
     ("missing in what is looked at", text_of("A=['a'/B]'a'", "C=[[B]]"), ["ab", "ba"]),
-    ("missing or end", text_of("A=B'x'/'b'", "B='a'C/'b'"), ["ba", "bb", "bx", "a"]),
+    ("missing, or out of text", text_of("A=B'x'/'b'", "B='a'C/'b'"), ["ba", "bb", "bx", "a"]),
     ("missing letters first", text_of("Z=YX'a'", "X=W", "Y="), ["a"]),
 ]
 

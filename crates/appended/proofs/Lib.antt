@@ -1,4 +1,5 @@
 -- Text added at the end of an input: why it comes again.
 pub mod Appended
 pub mod Answered
-pub mod Openings
+pub mod ByTable
+pub mod Examples

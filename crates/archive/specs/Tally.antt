@@ -10,7 +10,7 @@ unfoldable pub outcomes : (ℕ → Bool) → ℕ → List ℕ → ℕ
 outcomes kind zero T = 0
 outcomes kind (suc N) T = cond (kind (heldAt T N)) (suc (outcomes kind N T)) (outcomes kind N T)
 
--- "outcome 0, 1, 2, 3, 4, and 5 or more"
+-- "outcome 0, 1, 2, 3, 4, and 5 or more": since order 11 no call stores 4, but a lent table may hold it.
 abbrev pub kinds : List (ℕ → Bool)
 kinds = (λ o. eqb o 0) ∷ (λ o. eqb o 1) ∷ (λ o. eqb o 2) ∷ (λ o. eqb o 3) ∷ (λ o. eqb o 4) ∷ (λ o. leb 5 o) ∷ []
 

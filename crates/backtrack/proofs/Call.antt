@@ -76,7 +76,7 @@ module _ (sheet input : List ℕ) (x : Pair) (frames frames′ : List ℕ) (budg
   pub call-agrees : (o q : Outcome) → Names r o → Has (g .rule) input x q → o ≡ q
   call-agrees o q n h = has-one (g .rule) input x o q (call-derived o n) h
 
--- Every missing rule and every end of the input is named, lent enough moves and frames.
+-- Every missing rule is named, lent enough moves and frames.
 pub call-stops : (sheet input : List ℕ) (x : Pair) (g : Grammar) → handed sheet (asked input x) ≡ accepted g → {w : Stop} → Stops (g .rule) input w x
     → (moves : ℕ) × (room : ℕ) × ((frames frames′ : List ℕ) (budget : ℕ) (r : Ending) → Runs sheet input x frames frames′ budget r
     → moves ≤ budget → room ≤ length frames / 3 → told r ≡ accepted (ran (says (stopped w)) moves))

@@ -1,4 +1,4 @@
--- Every missing and end is named, given enough moves and frames. Assumes nothing.
+-- Every missing is named, given enough moves and frames. Assumes nothing.
 use mathlib.Core.List.{List, [], _∷_}
 use mathlib.Core.Path.{_≡_, ap, _∙_}
 use Prim.Native.Nat.{ℕ, zero, suc, _+_, _*_, _-_, _≤_, max}

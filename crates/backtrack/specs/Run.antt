@@ -6,18 +6,17 @@ use lib.ListN.{length}
 use Rattle.grammar.specs.Refusal.{Checked, refused, accepted}
 use Rattle.grammar.specs.Rule.{Rule}
 use Rattle.grammar.specs.Sheet.{Grammar}
-use Rattle.schema.specs.Derivation.{Pair, success, failure, missing, end, result, stopped}
+use Rattle.schema.specs.Derivation.{Pair, success, failure, missing, result, stopped}
 use Rattle.schema.specs.Handed.{asked, handed}
 use Rattle.schema.specs.Machine.{says, spent, noFrame, Ran, ran, machine}
 use Rattle.backtrack.specs.declared.Ending.{Ending}
-use Rattle.backtrack.specs.declared.Ending.the-variants.{Success, Failure, Missing, End, Spent, NoFrame, Refused}
+use Rattle.backtrack.specs.declared.Ending.the-variants.{Success, Failure, Missing, Spent, NoFrame, Refused}
 
 -- What each case stands for: "the outcome, the end on success, and the moves", or a refusal.
 abbrev pub told : Ending → Checked Ran
 told (Success q moves) = accepted (ran (says (result (success q))) moves)
 told (Failure moves) = accepted (ran (says (result failure)) moves)
 told (Missing moves) = accepted (ran (says (stopped missing)) moves)
-told (End moves) = accepted (ran (says (stopped end)) moves)
 told (Spent moves) = accepted (ran spent moves)
 told (NoFrame moves) = accepted (ran noFrame moves)
 told (Refused number line) = refused number line

@@ -23,7 +23,6 @@ pub enum Ending {
     Success(u32, u32),
     Failure(u32),
     Missing(u32),
-    End(u32),
     Spent(u32),
     NoFrame(u32),
     Refused(u32, u32),
@@ -79,7 +78,6 @@ fn plan_of(act: Act, x: Registers) -> Plan
         Act::Success(end) => Plan::Pop(true, end),
         Act::Failure => Plan::Pop(false, x.position),
         Act::Missing => Plan::End(Ending::Missing(x.moves)),
-        Act::End => Plan::End(Ending::End(x.moves)),
         Act::Calls(b, _, _) => Plan::Push(x.flag, 1, b, x.position),
     }
 }

@@ -9,7 +9,7 @@ ghost use Rattle.schema.specs.Derivation.{_at_};
 ghost use Rattle.schema.specs.Table.{cell};
 ghost use Rattle.cells.specs.Packed.{entry};
 
-// What a cell of the table holds: the number of an outcome (document 01: blank, failure, loop, missing, end, or success ending at a position), and its
+// What a cell of the table holds: the number of an outcome (document 01: blank, failure, loop, missing, or success ending at a position), and its
 // reach (document 02, order 6), 0 in what the calls store but for success and failure.
 pub struct Cell(pub u32, pub u32);
 
@@ -25,9 +25,6 @@ impl Cell {
 
     // "3 missing"
     pub const MISSING: Cell = Cell(3, 0);
-
-    // "4 end"
-    pub const END: Cell = Cell(4, 0);
 
     // "5 + q for success ending at q", at 0, with reach 0.
     pub const SUCCESS: Cell = Cell(5, 0);

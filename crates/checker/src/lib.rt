@@ -177,7 +177,6 @@ fn result_by(rules: &Rules, input: &[u8], certificate: &[u8], n: usize, line: Li
         Act::Success(end) => result_by_leaf(line, Given::Success(end)),
         Act::Failure => result_by_leaf(line, Given::Failure),
         Act::Missing => Given::Nothing,
-        Act::End => Given::Nothing,
         Act::Calls(b, c, d) => result_by_call(certificate, n, line, b, c, d),
     }
 }

@@ -23,7 +23,7 @@ use Rattle.kept.specs.Differs.{DiffersAt, differsElsewhere}
 use Rattle.kept.specs.Kept.{retained, KeptTable, asked, corrected}
 use Rattle.kept.specs.Range.{cellsOut}
 use Rattle.kept.proofs.Differing.{other-length, then-differs}
-use Rattle.kept.proofs.Ranged.{none-right}
+use Rattle.kept.proofs.Ranged.{four-out, none-right}
 use Rattle.correction.specs.Call.{KeptAnswers, KeptCall, KeptOf, Alike}
 use Rattle.correction.specs.Correction.{CorrectionPromise}
 use Rattle.correction.specs.Refusals.{correctedOut, correctionCondition, correctionOrder, correctable, CorrectionRefuses}
@@ -105,6 +105,16 @@ module _ (s old input : List ℕ) (A p c : ℕ) (table work : List ℕ) where
       let short = handed-input s question g e in
       refusing.then-tested s input (A at p) (length table) (length work) own correctionOrder correction-late g e
       ∙ correction-tested old input c table g ∙ rw (lt-ltb c (length input) l, other-length c old input (λ z. omega arith))
+
+  -- ---- Order 11: "a retained 4 comes under 19".
+
+  pub retained-four : (g : Grammar) → handed s (questionOf input (A at p) (length table) (length work)) ≡ accepted g → c < length input → differsElsewhere c old input ≡ false
+      → (B q : ℕ) → Within (g .variables) (length input) B q → retained (c + 1) (length input) table (B at q) .0 ≡ 4
+      → correctable s old input (A at p) c table (length work) ≡ refused 19 0
+  retained-four g e l same B q w four =
+      refusing.then-tested s input (A at p) (length table) (length work) own correctionOrder correction-late g e
+      ∙ correction-tested old input c table g
+      ∙ rw (lt-ltb c (length input) l, same, four-out (g .variables) (length input) (retained (c + 1) (length input) table) B q w four)
 
   -- ---- Any result.
 

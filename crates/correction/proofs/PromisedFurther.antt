@@ -10,14 +10,14 @@ use Rattle.grammar.specs.Refusal.{refused, accepted}
 use Rattle.grammar.specs.Sheet.{Grammar, sheet}
 use Rattle.schema.specs.Derivation.{_at_}
 use Rattle.schema.specs.Handed.{handed, questionOf}
-use Rattle.schema.specs.Table.{Within, contents}
+use Rattle.schema.specs.Table.{Within, held, contents}
 use Rattle.schema.proofs.Handed.{handed-sheet, handed-pair}
 use Rattle.finish.specs.Reply.{told}
 use Rattle.finish.specs.declared.Answer.{Answer}
 use Rattle.memo.specs.Answer.{QuestionPromise}
 use Rattle.kept.specs.Kept.{KeptTable, further}
 use Rattle.kept.specs.Range.{cellsOut}
-use Rattle.kept.proofs.Ranged.{none-right}
+use Rattle.kept.proofs.Ranged.{four-out, none-right}
 use Rattle.correction.specs.Call.{KeptAnswers, KeptCall, KeptOf, Alike}
 use Rattle.correction.specs.Further.{FurtherPromise}
 use Rattle.correction.specs.Refusals.{furtherCondition, furtherOrder, askable, FurtherRefuses}
@@ -42,6 +42,14 @@ module _ (s input : List ℕ) (A p : ℕ) (table work : List ℕ) where
     kept-accepted e =
         refusing.then-tested s input (A at p) (length table) (length work) (furtherCondition input table) furtherOrder further-late g e
         ∙ further-tested input table g ∙ rw kept-in
+
+  -- ---- Order 11: "a retained 4 comes under 19".
+
+  pub held-four : (g : Grammar) → handed s (questionOf input (A at p) (length table) (length work)) ≡ accepted g
+      → (B q : ℕ) → Within (g .variables) (length input) B q → held (length input) table (B at q) ≡ 4 → askable s input (A at p) table (length work) ≡ refused 19 0
+  held-four g e B q w four =
+      refusing.then-tested s input (A at p) (length table) (length work) (furtherCondition input table) furtherOrder further-late g e
+      ∙ further-tested input table g ∙ rw (four-out (g .variables) (length input) (contents (length input) table) B q w four)
 
   -- ---- Any result.
 

@@ -34,12 +34,11 @@ use Rattle.demands.proofs.Kept.{case-replied, demanded-kept}
 abbrev conditionAt : Grammar → Pair → ℕ → ℕ → ℕ → ℕ → ℕ → Bool
 conditionAt g x table work n number line =
     cond (eqb number 6) (ltb 4096 n)
-    (cond (eqb number 7) false
     (cond (eqb number 8) (pairVariableOut (g .variables) x)
     (cond (eqb number 9) (pairPositionOut n x)
     (cond (eqb number 10) (slicesShort (cells (g .variables) n) (table, work))
     (cond (eqb number 11) false
-    false)))))
+    false))))
 
 -- and so the question's answer to them.
 by-length : (s input other : List ℕ) (x : Pair) (table work : ℕ) → length input ≡ length other

@@ -18,7 +18,7 @@ use Rattle.schema.proofs.Following.{Follows}
 use Rattle.finish.specs.Reply.{Reply, reply}
 use Rattle.verdict.specs.Verdict.{numbers, judged, Judges, VerdictPromise}
 use Rattle.verdict.specs.declared.Judgement.{Judgement}
-use Rattle.verdict.specs.declared.Judgement.the-variants.{Recognised, Partial, Failure, Loop, Missing, End, Refused}
+use Rattle.verdict.specs.declared.Judgement.the-variants.{Recognised, Partial, Failure, Loop, Missing, Refused}
 use Rattle.backtrack.specs.Run as run
 use Rattle.backtrack.specs.declared.Ending.{Ending}
 use Rattle.checker.specs.Checker as checker
@@ -51,7 +51,6 @@ told-refused (Partial q count) n x l e = let h = head-same e in absurd (omega ar
 told-refused (Failure count) n x l e = let h = head-same e in absurd (omega arith)
 told-refused (Loop A p count) n x l e = let h = head-same e in absurd (omega arith)
 told-refused (Missing A p count) n x l e = let h = head-same e in absurd (omega arith)
-told-refused (End A p count) n x l e = let h = head-same e in absurd (omega arith)
 
 told-accepted : (r : Judgement) (n : ℕ) (a : Reply) → numbers r ≡ judged n (accepted a) → (b : List ℕ) × (verdictTold r ≡ accepted b)
 told-accepted (Refused number line) n (reply o (A at p) count) e = let h = head-same e in let m = verdict-code-most n o in absurd (omega arith)
@@ -60,7 +59,6 @@ told-accepted (Partial q count) n a e = (numbers (Partial q count), refl)
 told-accepted (Failure count) n a e = (numbers (Failure count), refl)
 told-accepted (Loop A p count) n a e = (numbers (Loop A p count), refl)
 told-accepted (Missing A p count) n a e = (numbers (Missing A p count), refl)
-told-accepted (End A p count) n a e = (numbers (End A p count), refl)
 
 pub verdict-follows : (s input table table′ work work′ : List ℕ) (r : Judgement) → VerdictPromise s input table table′ work work′ r
     → Follows (List ℕ) s (verdictOf input (length table) (length work)) (verdictTold r) ((table′ ≡ table) × (work′ ≡ work))

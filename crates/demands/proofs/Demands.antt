@@ -100,7 +100,7 @@ demand-1-check = one.check-refused
 -- ---- Demand 2. "Rules mean what the generalized TMG Recognition Schema (gTS) says. Success and failure come where it derives them and nowhere else."
 -- For the question this is `outcome-exactly` of demand 3.
 
--- What the machine names, success, failure, missing or end, the pair has.
+-- What the machine names, success, failure or missing, the pair has.
 pub demand-2-names : (s input : List ℕ) (x : Pair) (frames frames′ : List ℕ) (budget : ℕ) (r : Ending) → run.Runs s input x frames frames′ budget r
     → (g : Grammar) → handed s (asked input x) ≡ accepted g → (o : Outcome) (moves : ℕ) → run.told r ≡ accepted (ran (says o) moves) → Has (g .rule) input x o
 demand-2-names = two.machine-derived

@@ -13,7 +13,7 @@ use Rattle.schema.specs.Table.{Within, cells, decided, held, Holds}
 use Rattle.finish.specs.Reply.{Reply, outcomeOf, countOf}
 use Rattle.verdict.specs.Verdict.{numbers}
 use Rattle.verdict.specs.declared.Judgement.{Judgement}
-use Rattle.verdict.specs.declared.Judgement.the-variants.{Recognised, Partial, Failure, Loop, Missing, End, Refused}
+use Rattle.verdict.specs.declared.Judgement.the-variants.{Recognised, Partial, Failure, Loop, Missing, Refused}
 use Rattle.backtrack.specs.Run as run
 use Rattle.backtrack.specs.declared.Ending.{Ending}
 use Rattle.checker.specs.Checker.{Claimed, succeeds, fails, Checks, told}
@@ -30,7 +30,6 @@ verdictTold (Partial q count) = accepted (numbers (Partial q count))
 verdictTold (Failure count) = accepted (numbers (Failure count))
 verdictTold (Loop A p count) = accepted (numbers (Loop A p count))
 verdictTold (Missing A p count) = accepted (numbers (Missing A p count))
-verdictTold (End A p count) = accepted (numbers (End A p count))
 
 -- ---- Demand 3.
 
@@ -42,11 +41,11 @@ claimedOutcome (fails q) = result failure
 -- Demand 3, "any question (sheet, entry, variable, place) that the table engine does not refuse", of the grammar g that it reads, the table that it
 -- leaves and its reply. `Counted`, the pairs that the count is of, is what differs from call to call.
 pub record Demand3 (sheet input : List ℕ) (x : Pair) (g : Grammar) (Counted : Pair → Type 0) (table : List ℕ) (a : Reply) : Type 0 where
-  -- "The engine says failure, a missing rule, the entry's end, or success with a certain end, exactly when a finite derivation gives just that.
-  -- It says loop exactly when none gives any of these four."
+  -- "The engine says failure, a missing rule, .. or success with a certain end, exactly when a finite derivation gives just that.
+  -- It says loop exactly when none gives any of these"; order 11: "over three endings and loop".
   pub outcome-exactly : (o : Outcome) → (outcomeOf a ≡ o) ↔ Has (g .rule) input x o
-  -- "If the machine, moving as document 01 says and lent any moves and frames for the same question, names one of the four, that is the engine's
-  -- answer, a success with the same end."
+  -- "If the machine, moving as document 01 says and lent any moves and frames for the same question, names one of the"
+  -- three, "that is the engine's answer, a success with the same end."
   pub machine-agrees : (budget room : ℕ) (o : Outcome) (moves : ℕ) → machine (g .rule) input x budget room ≡ ran (says o) moves → outcomeOf a ≡ o
   pub run-agrees : (frames frames′ : List ℕ) (budget : ℕ) (r : Ending) → run.Runs sheet input x frames frames′ budget r
       → (o : Outcome) (moves : ℕ) → run.told r ≡ accepted (ran (says o) moves) → outcomeOf a ≡ o

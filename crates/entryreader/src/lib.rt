@@ -61,7 +61,6 @@ fn code(judgement: Judgement) -> u32
         Judgement::Failure(_) => 1,
         Judgement::Loop(_, _, _) => 2,
         Judgement::Missing(_, _, _) => 3,
-        Judgement::End(_, _, _) => 4,
         Judgement::Partial(_, _) => 5,
         Judgement::Refused(number, _) => 100 + number,
     }

@@ -6,7 +6,7 @@ use mathlib.Core.Path.{_≡_}
 use Prim.Native.Nat.{ℕ, suc, _*_, _≤_, _<_}
 use lib.ListN.{length, getD, drop}
 use Rattle.schema.specs.Cells.{heldAt, reachAt}
-use Rattle.schema.specs.Derivation.{Pair, _at_, missing, end, Outcome, result, stopped, loop}
+use Rattle.schema.specs.Derivation.{Pair, _at_, missing, Outcome, result, stopped, loop}
 use Rattle.schema.specs.Table.{Within, cells, held}
 use Rattle.cells.specs.Packed.{entry}
 use Rattle.step.specs.Codes.{openMark, resultOf}
@@ -18,14 +18,12 @@ abbrev pub outcomeOf : Walk → Outcome
 outcomeOf (walk.Settled c) = result (resultOf c)
 outcomeOf (walk.Loop A p B q d) = loop
 outcomeOf (walk.Missing A p d) = stopped missing
-outcomeOf (walk.End A p d) = stopped end
 
 -- The named pair.
 abbrev pub namedOf : Walk → Pair
 namedOf (walk.Settled c) = 0 at 0
 namedOf (walk.Loop A p B q d) = A at p
 namedOf (walk.Missing A p d) = A at p
-namedOf (walk.End A p d) = A at p
 
 -- The open pairs from the latest to the asked one, root: each was called by the next, which the work slice holds, d of them in all, the latest last.
 pub data Trail (W : List ℕ) (root : Pair) : ℕ → List Pair → Type 0 where

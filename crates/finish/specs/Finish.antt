@@ -27,7 +27,6 @@ abbrev pub FinishReady : ℕ → ℕ → List ℕ → List ℕ → Walk → Type
 FinishReady n v T W (walk.Settled c) = NothingOpen n v c T
 FinishReady n v T W (walk.Loop a e B q d) = CloseReady n v B q d (code (outcomeOf (walk.Loop a e B q d))) 0 T W
 FinishReady n v T W (walk.Missing B q d) = CloseReady n v B q d (code (outcomeOf (walk.Missing B q d))) 0 T W
-FinishReady n v T W (walk.End B q d) = CloseReady n v B q d (code (outcomeOf (walk.End B q d))) 0 T W
 
 -- The open cells hold the outcome, and the answer has the count.
 pub record Finishes (n v : ℕ) (end : Walk) (count : ℕ) (T T′ : List ℕ) (r : Answer) : Type 0 where

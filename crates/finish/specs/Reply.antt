@@ -2,9 +2,9 @@
 use mathlib.Core.Path.{_≡_}
 use Prim.Native.Nat.{ℕ}
 use Rattle.grammar.specs.Refusal.{Checked, refused, accepted}
-use Rattle.schema.specs.Derivation.{Pair, _at_, success, failure, missing, end, Outcome, result, stopped, loop}
+use Rattle.schema.specs.Derivation.{Pair, _at_, success, failure, missing, Outcome, result, stopped, loop}
 use Rattle.finish.specs.declared.Answer.{Answer}
-use Rattle.finish.specs.declared.Answer.the-variants.{Success, Failure, Loop, Missing, End, Refused}
+use Rattle.finish.specs.declared.Answer.the-variants.{Success, Failure, Loop, Missing, Refused}
 
 -- "The result carries the outcome, the named pair if any, and the count of decided (non-blank) cells". No pair is 0 at 0.
 pub data Reply : Type 0 where
@@ -32,5 +32,4 @@ told (Success q count) = accepted (reply (result (success q)) (0 at 0) count)
 told (Failure count) = accepted (reply (result failure) (0 at 0) count)
 told (Loop A p count) = accepted (reply loop (A at p) count)
 told (Missing A p count) = accepted (reply (stopped missing) (A at p) count)
-told (End A p count) = accepted (reply (stopped end) (A at p) count)
 told (Refused number line) = refused number line

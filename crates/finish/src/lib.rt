@@ -12,14 +12,13 @@ use cells::Cell;
 use cells::cell_number;
 use step::Walk;
 
-// What a question is answered, with the count of decided cells: success with its end, failure; loop, a missing rule or the end of the input
+// What a question is answered, with the count of decided cells: success with its end, failure; loop or a missing rule
 // with the variable and the position that are named; or the number and the line of a refusal.
 pub enum Answer {
     Success(u32, u32),
     Failure(u32),
     Loop(u32, u32, u32),
     Missing(u32, u32, u32),
-    End(u32, u32, u32),
     Refused(u32, u32),
 }
 
@@ -84,10 +83,6 @@ pub fn finish(
         Walk::Missing(a, p, depth) => {
             close(n, variables, a, p, depth, Cell::MISSING, table, work);
             Answer::Missing(a, p, count)
-        }
-        Walk::End(a, p, depth) => {
-            close(n, variables, a, p, depth, Cell::END, table, work);
-            Answer::End(a, p, count)
         }
     }
 }

@@ -45,7 +45,7 @@ module _ (rule : ℕ → Rule) (s s′ : List ℕ) (c : ℕ) (d : DiffersAt c s 
       let b = subst (λ (z : Pair). Derives rule s z t i h) (first-is rule s A p (k .3)) (from-done rule s f) in
       subst Right (sym (e ∙ second-is rule s A p (k .3) t)) (right-second (k .1) (k .2) p t (r .above) (r .inside) (derives-ends rule s (r .inside) b))
 
-  -- Success, failure, missing, end and loop.
+  -- Success, failure, missing and loop.
   pub right-has : (x : Pair) (o : Outcome) → Right x → Has rule s x o → Has rule s′ x o
   right-has = has-same rule s s′ Right right-act right-called
 

@@ -4,7 +4,7 @@ use mathlib.Core.Bool.{Bool, true, false, cond, not, _&&_, _||_, true≢false}
 use mathlib.Core.List.{List}
 use mathlib.Core.Logic.{_⊎_, inl, inr, _≢_}
 use mathlib.Core.Path.{_≡_, refl, sym, ap, _∙_, subst}
-use Prim.Native.Nat.{ℕ, _+_, max, _≤_, _<_}
+use Prim.Native.Nat.{ℕ, _+_, _≤_, _<_}
 use native.Mathlib.Decide.{ℕ-discrete}
 use native.Mathlib.Omega.{arith}
 use lib.Dec.{ltb}
@@ -12,10 +12,10 @@ use lib.ListN.{length}
 use borrow.Author.Tests.{ne-eqb, ltb-true, ltb-false, lt-ltb, le-ltb}
 use Rattle.grammar.specs.Rule.{Rule}
 use Rattle.schema.specs.Closed.{Closed}
-use Rattle.schema.specs.Derivation.{Pair, _at_, Result, success, failure, missing, end, calls, act, second, Outcome, result, stopped, loop, Has}
+use Rattle.schema.specs.Derivation.{Pair, _at_, Result, success, failure, missing, calls, act, second, Outcome, result, stopped, loop, Has}
 use Rattle.schema.specs.Examined.{Examines, node, Reaches}
 use Rattle.schema.specs.Reached.{Reached, first-of, second-of}
-use Rattle.schema.specs.Table.{Within, code, held, reach, contents, blanked, Holds, Table}
+use Rattle.schema.specs.Table.{Within, code, held, reach, contents, Holds, Table}
 use Rattle.schema.proofs.Cell.{PairWithin}
 use Rattle.schema.proofs.Closed.{calls-call, second-within}
 use Rattle.schema.proofs.Codes.{code-full}
@@ -35,8 +35,6 @@ result-code (result failure) (success e) h = absurd (omega arith)
 result-code (result failure) failure h = refl
 result-code (stopped missing) (success e) h = absurd (omega arith)
 result-code (stopped missing) failure h = absurd (omega arith)
-result-code (stopped end) (success e) h = absurd (omega arith)
-result-code (stopped end) failure h = absurd (omega arith)
 result-code loop (success e) h = absurd (omega arith)
 result-code loop failure h = absurd (omega arith)
 
@@ -44,7 +42,6 @@ result-code loop failure h = absurd (omega arith)
 is-result : (o : Outcome) → isResult (code o) ≡ true → (r : Result) × (o ≡ result r)
 is-result (result r) e = (r, refl)
 is-result (stopped missing) e = absurd (true≢false (sym e))
-is-result (stopped end) e = absurd (true≢false (sym e))
 is-result loop e = absurd (true≢false (sym e))
 
 -- What is blank where it stays, and blanked where it does not, is blank.

@@ -25,12 +25,11 @@ use Rattle.lines.specs.declared.Turn.{Turn}
 use Rattle.lines.specs.declared.Turn.the-variants as turn
 
 -- An act whose place among the cases is before the last is no call.
-pub not-calls : (a : Act) → OneOf (0 ∷ 1 ∷ 2 ∷ 3 ∷ []) (tagOf declared.the-type a) → (B C D : ℕ) → told a ≢ calls B C D
+pub not-calls : (a : Act) → OneOf (0 ∷ 1 ∷ 2 ∷ []) (tagOf declared.the-type a) → (B C D : ℕ) → told a ≢ calls B C D
 not-calls (code.Success q) k B C D e = true≢false (cc)
 not-calls code.Failure k B C D e = true≢false (cc)
 not-calls code.Missing k B C D e = true≢false (cc)
-not-calls code.End k B C D e = true≢false (cc)
-not-calls (code.Calls E F G) k B C D e = elim k [ inl h ↦ omega arith | inr m ↦ elim m [ inl h ↦ omega arith | inr o ↦ elim o [ inl h ↦ omega arith | inr h ↦ omega arith ] ] ]
+not-calls (code.Calls E F G) k B C D e = elim k [ inl h ↦ omega arith | inr m ↦ elim m [ inl h ↦ omega arith | inr h ↦ omega arith ] ]
 
 -- What a number of the work slice asks.
 pub cell-in : (v n : ℕ) (L : List ℕ) (X q : ℕ) → v ≤ 256 → n ≤ 4096 → cells v n ≤ length L → Variable v X → q ≤ n

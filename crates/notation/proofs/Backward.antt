@@ -6,9 +6,9 @@ use mathlib.Core.Path.{_≡_, refl, sym, _∙_, subst}
 use Prim.Native.Nat.{ℕ}
 use Rattle.grammar.specs.Rule.{Rule, absent, always, never, byte, call}
 use Rattle.schema.specs.Derivation.{Pair, _at_, Result, success, failure, Stop, Act, gives, stops, calls, actOf, act, second, Outcome, result, stopped, loop, Derives, leaf, node, Stops, here, in-first, in-second}
-use Rattle.schema.proofs.Closed.{calls-call}
+use Rattle.schema.proofs.Closed.{calls-call, byte-result}
 use Rattle.notation.specs.Text.{round, square, Item, letter, quoted, fails, inside, Row, empty, next, Choice, only, or, Line, lineOf}
-use Rattle.notation.specs.Direct.{item, row, choice, Reads, none-yet, then, breaks, first, counts, else, by-line, no-line, byte-gives, byte-stops, fails-always, in-round, takes-nothing, must-succeed}
+use Rattle.notation.specs.Direct.{item, row, choice, Reads, none-yet, then, breaks, first, counts, else, by-line, no-line, byte-gives, fails-always, in-round, takes-nothing, must-succeed}
 use Rattle.notation.proofs.Acts.{Thing, of, not, Acts, letter-at, quoted-at, fails-at, round-at, not-at, square-at, empty-at, alone-at, next-at, only-at, or-at, Translates, Gets}
 
 -- ---- What a thing has, read directly.
@@ -60,7 +60,7 @@ module _ {rule : ℕ → Rule} {number : ℕ → ℕ} {E F : ℕ} {Known : ℕ �
 
   by-byte : (b p : ℕ) (o : Outcome) (a : Act) → actOf (byte b) s p ≡ a → Gives a o → Reads ls s (item (quoted b)) p o
   by-byte b p o (gives r) e g = rw g (byte-gives e)
-  by-byte b p o (stops w) e g = rw g (byte-stops e)
+  by-byte b p o (stops w) e g = let f = byte-result b s p .1 in absurd (true≢false (cc))
   by-byte b p o (calls B C D) e g = absurd g
 
   by-letter : (A v p : ℕ) (o : Outcome) → v ≡ number A → Known A → (m : Option Choice) → lineOf ls A ≡ m → Gives (actOf (rule v) s p) o

@@ -6,7 +6,7 @@ use Rattle.grammar.specs.Rule.{Rule, absent, call}
 use Rattle.schema.specs.Derivation.{Pair, _at_, Result, success, failure, Stop, missing, gives, calls, actOf, act, Outcome, result, stopped, loop, Has, leaf, node, here, in-first, in-second}
 use Rattle.schema.proofs.Laws.{has-one}
 use Rattle.notation.specs.Text.{Line}
-use Rattle.notation.specs.Direct.{Piece, Broken, Counts, Reads, none-yet, then, breaks, first, counts, else, by-line, no-line, byte-gives, byte-stops, fails-always, in-round, takes-nothing, must-succeed}
+use Rattle.notation.specs.Direct.{Piece, Broken, Counts, Reads, none-yet, then, breaks, first, counts, else, by-line, no-line, byte-gives, fails-always, in-round, takes-nothing, must-succeed}
 use Rattle.notation.proofs.Acts.{of, Acts, letter-at, quoted-at, fails-at, round-at, not-at, square-at, empty-at, alone-at, next-at, only-at, or-at, Translates, Gets}
 
 module _ (rule : ℕ → Rule) (s : List ℕ) where
@@ -107,7 +107,6 @@ module _ {rule : ℕ → Rule} {number : ℕ → ℕ} {E F : ℕ} {Known : ℕ �
       rw e (hands-on (number A) (m .0) p o (m .2) (forward d (m .0) (m .1)))
   forward (no-line {A = A} {p = p} l) v (letter-at e k) = rw e (missing-at A p (t .absent-at A k l))
   forward (byte-gives {p = p} {r = r} e) v (quoted-at f) = leaf-of rule s v p r (rw f e)
-  forward (byte-stops {p = p} {w = w} e) v (quoted-at f) = here {x = v at p} (rw f e)
   forward (fails-always {p = p}) v (fails-at e) = rw e (fails-there p)
   forward (in-round d) v (round-at a) = forward d v a
   forward (takes-nothing {p = p} {q = q} d) v (square-at {n = n} (not-at {y = y} a e) f) =

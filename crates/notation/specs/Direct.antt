@@ -4,7 +4,7 @@ use mathlib.Core.Option.{none, some}
 use mathlib.Core.Path.{_≡_}
 use Prim.Native.Nat.{ℕ}
 use Rattle.grammar.specs.Rule.{byte}
-use Rattle.schema.specs.Derivation.{Result, success, failure, Stop, missing, gives, stops, actOf, Outcome, result, stopped, loop}
+use Rattle.schema.specs.Derivation.{Result, success, failure, missing, gives, actOf, Outcome, result, stopped, loop}
 use Rattle.notation.specs.Text.{round, square, Item, letter, quoted, fails, inside, Row, empty, next, Choice, only, or, Line, lineOf}
 
 -- What is read at a place of the entry.
@@ -32,7 +32,7 @@ pub data Reads (ls : List Line) (s : List ℕ) : Piece → ℕ → Outcome → T
   -- "the items of a row follow one another": no item takes nothing; one more is read where those before it end,
   none-yet : {p : ℕ} → Reads ls s (row empty) p (result (success p))
   then : {r : Row} {i : Item} {p q : ℕ} {o : Outcome} → Reads ls s (row r) p (result (success q)) → Reads ls s (item i) q o → Reads ls s (row (next r i)) p o
-  -- and is not read where they fail; "missing or end, once met, is the line's outcome".
+  -- and is not read where they fail; "missing .., once met, is the line's outcome".
   breaks : {r : Row} {i : Item} {p : ℕ} {o : Outcome} → Broken o → Reads ls s (row r) p o → Reads ls s (row (next r i)) p o
   -- "the first row that succeeds counts, and a choice fails when all its rows fail"
   first : {r : Row} {p : ℕ} {o : Outcome} → Reads ls s (row r) p o → Reads ls s (choice (only r)) p o
@@ -41,9 +41,8 @@ pub data Reads (ls : List Line) (s : List ℕ) : Piece → ℕ → Outcome → T
   -- a letter is its line; "a letter without a line is a missing rule"
   by-line : {A p : ℕ} {c : Choice} {o : Outcome} → lineOf ls A ≡ some c → Reads ls s (choice c) p o → Reads ls s (item (letter A)) p o
   no-line : {A p : ℕ} → lineOf ls A ≡ none → Reads ls s (item (letter A)) p (stopped missing)
-  -- "a byte acts as in kind 2"
+  -- "a byte acts as in kind 2", and so fails at the entry's end
   byte-gives : {b p : ℕ} {r : Result} → actOf (byte b) s p ≡ gives r → Reads ls s (item (quoted b)) p (result r)
-  byte-stops : {b p : ℕ} {w : Stop} → actOf (byte b) s p ≡ stops w → Reads ls s (item (quoted b)) p (stopped w)
   -- "`%` (always fails)"
   fails-always : {p : ℕ} → Reads ls s (item fails) p (result failure)
   -- "a choice in round brackets"

@@ -11,7 +11,7 @@ use lib.ListN.{length, getD}
 use Rattle.grammar.specs.Refusal.{Checked, refused, accepted}
 use Rattle.grammar.specs.Rule.{Rule}
 use Rattle.grammar.specs.Sheet.{Grammar}
-use Rattle.schema.specs.Derivation.{Pair, _at_, success, failure, missing, end, Outcome, result, stopped, loop, Has, Loops}
+use Rattle.schema.specs.Derivation.{Pair, _at_, success, failure, missing, Outcome, result, stopped, loop, Has, Loops}
 use Rattle.schema.specs.Handed.{handed, verdictOf}
 use Rattle.schema.specs.Verdict.{verdictCode}
 use Rattle.schema.proofs.Codes.{verdict-code-most}
@@ -33,7 +33,6 @@ code-loop n (result (success q)) e = absurd (by-end (eqb q n) e)
     by-end false f = omega arith
 code-loop n (result failure) e = absurd (omega arith)
 code-loop n (stopped missing) e = absurd (omega arith)
-code-loop n (stopped end) e = absurd (omega arith)
 code-loop n loop e = refl
 
 first-code : (n : ℕ) (o : Outcome) (z : Pair) (count : ℕ) → getD (judged n (accepted (reply o z count))) 0 0 ≡ verdictCode n o

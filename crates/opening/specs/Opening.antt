@@ -19,7 +19,7 @@ pub record Shortest (rule : ℕ → Rule) (input : List ℕ) (x : Pair) (m : ℕ
   pub loops : Loops rule (take m input) x
   pub none-shorter : (j : ℕ) → j < m → Loops rule (take j input) x → ⊥
 
--- "For a looping verdict, give the least m .. Other verdicts have no such opening."
+-- "For a looping verdict, give the least m"; order 11: "other verdicts get none, though an opening of theirs may loop".
 abbrev pub LoopOpening : (ℕ → Rule) → List ℕ → Pair → Option ℕ → Type 0
 LoopOpening rule input x (some m) = Loops rule input x × Shortest rule input x m
 LoopOpening rule input x none = Loops rule input x → ⊥
@@ -48,6 +48,6 @@ abbrev pub Finds : Checked Grammar → List ℕ → List ℕ → List ℕ → Li
 Finds (refused number line) input table table′ work work′ r = (r ≡ refused number line) × (table′ ≡ table) × (work′ ≡ work)
 Finds (accepted g) input table table′ work work′ r = Opens (g .rule) (g .variables) input (g .start at 0) table table′ work work′ r
 
--- The promise of the call. It is handed what the verdict is, so that 7 is tested once, of the whole input: the openings need no endmarker.
+-- The promise of the call. It is handed what the verdict is.
 abbrev pub OpeningPromise : List ℕ → List ℕ → List ℕ → List ℕ → List ℕ → List ℕ → Prefix → Type 0
 OpeningPromise sheet input table table′ work work′ r = Finds (handed sheet (verdictOf input (length table) (length work))) input table table′ work work′ (told r)

@@ -29,10 +29,7 @@ module _ (s input : List ℕ) (g : Grammar) (e : handed s (verdictOf input 2048 
       ∙ accepted-clear (callCondition g (writerOf input (g .start at 0) 2048 1024 k)) callOrder g .1 (
         le-ltb 4096 n (handed-input s _ g e),
         (
-          refl,
-          (
-            rw (le-leb 1 (g .start) (b .2), le-leb (g .start) (g .variables) (b .3)) refl,
-            (le-ltb n 0 (omega arith), (rw (le-ltb 2048 (2 * count) (room .0), le-ltb 1024 count (room .1)) refl, (le-ltb k (49 * count) (omega arith), tt))),
-          ),
+          rw (le-leb 1 (g .start) (b .2), le-leb (g .start) (g .variables) (b .3)) refl,
+          (le-ltb n 0 (omega arith), (rw (le-ltb 2048 (2 * count) (room .0), le-ltb 1024 count (room .1)) refl, (le-ltb k (49 * count) (omega arith), tt))),
         ),
       )

@@ -8,7 +8,7 @@ use lib.Seq.{take-all, take-at, drop-at, drop-drop}
 use borrow.Rule.Slice.PartMut.{putMid, midOf, postOf}
 use Rattle.verdict.specs.Verdict.{numbers}
 use Rattle.verdict.specs.declared.Judgement.{Judgement}
-use Rattle.verdict.specs.declared.Judgement.the-variants.{Recognised, Partial, Failure, Loop, Missing, End, Refused}
+use Rattle.verdict.specs.declared.Judgement.the-variants.{Recognised, Partial, Failure, Loop, Missing, Refused}
 
 -- The four numbers of a verdict, one by one.
 pub four-numbers : (j : Judgement) → getD (numbers j) 0 0 ∷ getD (numbers j) 1 0 ∷ getD (numbers j) 2 0 ∷ getD (numbers j) 3 0 ∷ [] ≡ numbers j
@@ -17,7 +17,6 @@ four-numbers (Partial q count) = refl
 four-numbers (Failure count) = refl
 four-numbers (Loop A p count) = refl
 four-numbers (Missing A p count) = refl
-four-numbers (End A p count) = refl
 four-numbers (Refused number line) = refl
 
 module _ (out line : List ℕ) (size : length line ≡ 33) where

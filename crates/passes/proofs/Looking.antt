@@ -10,7 +10,7 @@ use native.Mathlib.Omega.{arith}
 use lib.Dec.{eqb, ltb}
 use lib.ListN.{length, getD, set, length-set}
 use lib.Seq.{getD-set-same, getD-set-other}
-use borrow.Author.Tests.{eqb-true, ltb-true, ltb-false}
+use borrow.Author.Tests.{eqb-true, ne-eqb, ltb-true, ltb-false, lt-ltb, le-ltb}
 use Rattle.grammar.proofs.Fitting.{neither-true}
 use Rattle.schema.specs.Cells.{heldAt, reachAt, cellAt}
 use Rattle.schema.specs.Derivation.{_at_}
@@ -23,7 +23,23 @@ use Rattle.kept.proofs.Some.{some-none, some-one, some-more}
 use Rattle.passes.specs.Passes.{BlankIf, EndBlankIf, rowOut, Unchanged, Looked, Firsts, FirstsUnless}
 use Rattle.passes.proofs.Rows.{next-row}
 
+or-false : (b : Bool) → (b || false) ≡ b
+or-false true = refl
+or-false false = refl
+
 -- ---- A cell.
+
+-- 4 is the number right below those of success: the test for an end left of the position tells it too.
+pub four-below-success : (n p k : ℕ)
+    → (ltb (5 + n) k || (not (ltb k 4) && ltb k (5 + p))) ≡ ((ltb (5 + n) k || (not (ltb k 5) && ltb k (5 + p))) || eqb k 4)
+four-below-success n p k = elim (ℕ-discrete k 4) [ yes e ↦ rw (e, le-ltb (5 + n) 4 (omega arith), lt-ltb 4 (5 + p) (omega arith)) | no d ↦ by-test d (ltb k 4) refl ]
+  where
+    by-test : k ≢ 4 → (b : Bool) → ltb k 4 ≡ b
+        → (ltb (5 + n) k || (not (ltb k 4) && ltb k (5 + p))) ≡ ((ltb (5 + n) k || (not (ltb k 5) && ltb k (5 + p))) || eqb k 4)
+    by-test d true h = let l = ltb-true k 4 h in rw (h, lt-ltb k 5 (omega arith), ne-eqb k 4 d) (sym (or-false (ltb (5 + n) k || false)))
+    by-test d false h =
+        let l = ltb-false k 4 h in
+        rw (h, le-ltb k 5 (omega (arith, d)), ne-eqb k 4 d) (sym (or-false (ltb (5 + n) k || ltb k (5 + p))))
 
 -- What is blank is blank where it stays, and where it does not.
 kept-blank : (limit p : ℕ) → _≡_ {A = ℕ × ℕ} (kept limit p (0, 0)) (0, 0)
@@ -62,10 +78,6 @@ same-kept limit p k = go (stays limit p k) (eqb (k .0) 0 && eqb (k .1) 0) refl
 right-true : (a b : Bool) → (a && b) ≡ true → b ≡ true
 right-true true b e = e
 right-true false b e = absurd (true≢false (sym e))
-
-or-false : (b : Bool) → (b || false) ≡ b
-or-false true = refl
-or-false false = refl
 
 -- So many numbers more, none of which passes the test.
 some-skip : (test : ℕ → Bool) (m count : ℕ) → ((i : ℕ) → i < count → test (m + i) ≡ false) → some (m + count) test ≡ some m test

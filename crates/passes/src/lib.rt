@@ -17,6 +17,9 @@ use cells::Cell;
 // How many cells are skipped at once.
 const BLOCK: usize = 16;
 
+// Order 11: "cell value 4 no longer" occurs, "and a retained 4 comes under 19": the number right below those of success.
+const NO_OUTCOME: u32 = 4;
+
 // For each row, a position before which the second pass has nothing to blank.
 type FirstPositions = [u32; 256];
 
@@ -47,13 +50,13 @@ fn looks_below(cell: Cell, limit: u32) -> bool
     is_result(cell) & (cell.1 < limit)
 }
 
-// Is what a cell at a position holds over 5 + n, or that of a success ending left of it, or that of a result that reaches less than it?
+// Is what a cell at a position holds over 5 + n, or 4, or that of a success ending left of it, or that of a result that reaches less than it?
 fn out_of_range(cell: Cell, position: u32, n: u32) -> bool
     requires { ⌜ (n ≤ 4096) × (position ≤ n) ⌝ }
     ensures { λ r. ⌜ r ≡ outOfRange n position (cell .0, cell .1) ⌝ }
 {
     let success = Cell::SUCCESS.0;
-    let end_out = (success + n < cell.0) | (!(cell.0 < success) & (cell.0 < success + position));
+    let end_out = (success + n < cell.0) | (!(cell.0 < NO_OUTCOME) & (cell.0 < success + position));
     end_out | (is_result(cell) & (cell.1 < position))
 }
 

@@ -19,7 +19,6 @@ pub fn report(answer: Answer, out: &mut [u32; 4]) -> u32
         Answer::Failure(count) => [Cell::FAILURE.0, 0, 0, count],
         Answer::Loop(variable, position, count) => [Cell::LOOP.0, variable, position, count],
         Answer::Missing(variable, position, count) => [Cell::MISSING.0, variable, position, count],
-        Answer::End(variable, position, count) => [Cell::END.0, variable, position, count],
         Answer::Refused(number, _) => {
             return 100 + number;
         }

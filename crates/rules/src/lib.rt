@@ -15,12 +15,11 @@ ghost use Rattle.schema.specs.Examined.{leafReach};
 ghost use Rattle.rules.specs.Act.{told};
 ghost use Rattle.rules.specs.Admission.{Admission};
 
-// What a rule does at a position: success ending at a position, failure, a stop, or a call of three variables.
+// What a rule does at a position: success ending at a position, failure, missing where the variable has no rule, or a call of three variables.
 pub enum Act {
     Success(u32),
     Failure,
     Missing,
-    End,
     Calls(u32, u32, u32),
 }
 
@@ -34,14 +33,14 @@ fn seen(byte: u8, classed: bool) -> u8
     byte
 }
 
-// A rule of kind 2 or 3 at a position.
+// A rule of kind 2 or 3 at a position. Order 11: "a byte or class rule at place n fails".
 fn one_byte(input: &[u8], position: u32, classed: bool, wanted: u32) -> Act
     requires { ⌜ length (now input) ≤ 4096 ⌝ }
     ensures { λ r. let b = getD (now (input .entry)) position 0 in ⌜ told r ≡ oneByte (now (input .entry)) position (eqb (cond classed (classOf b) b) wanted) ⌝ }
 {
     let at = position as usize;
     if input.len() <= at {
-        return Act::End;
+        return Act::Failure;
     }
     if seen(input[at], classed) as u32 == wanted {
         return Act::Success(position + 1);
@@ -68,10 +67,10 @@ pub fn act_at(rules: &Rules, input: &[u8], variable: u32, position: u32) -> Act
     if kind == 1 {
         return Act::Success(position);
     }
-    if kind == 2 {
-        return Act::Failure;
+    if kind != 2 {
+        return Act::Missing;
     }
-    Act::Missing
+    Act::Failure
 }
 
 // How far a leaf looks, at a position: one past it where it looks at a byte.

@@ -22,11 +22,11 @@ handed-parts s h =
     let g = grammarOf s in
     checked-then (handedCondition s h) (sheetOrder s) callOrder g g
     ∙ ap₂ then (checked-below 6 (callCondition g h) (condition s) g (sheetOrder s) (sheet-numbers s))
-    (checked-from 6 (callCondition g h) (condition s) g callOrder (omega arith, (omega arith, (omega arith, (omega arith, (omega arith, (omega arith, tt)))))))
+    (checked-from 6 (callCondition g h) (condition s) g callOrder (omega arith, (omega arith, (omega arith, (omega arith, (omega arith, tt))))))
 
 -- Their numbers are at most 11.
 pub call-numbers : (s : List ℕ) → Each (λ x. x ≤ 11) (handedOrder s)
 unfolding handedOrder
 call-numbers s =
     each-append (λ x. x ≤ 11) (sheetOrder s) callOrder (each-also _ (λ x. x ≤ 11) (sheetOrder s) (λ x l. omega arith) (sheet-numbers s))
-    (omega arith, (omega arith, (omega arith, (omega arith, (omega arith, (omega arith, tt))))))
+    (omega arith, (omega arith, (omega arith, (omega arith, (omega arith, tt)))))

@@ -24,7 +24,6 @@ use Rattle.schema.specs.Derivation.{Pair, Result, Stop, Outcome, result,
 use Rattle.schema.specs.Handed.{Handed, callCondition, handedCondition, handedOrder, handed, questionOf, verdictOf}
 use Rattle.schema.specs.Machine.{Ran, step, run, machine}
 use Rattle.schema.specs.Reached.{Reached, Named, Number}
-use Rattle.schema.specs.Verdict.{closedBy}
 use Rattle.schema.proofs.Handed.{handed-sheet, handed-pair}
 use Rattle.schema.proofs.Eval.{Value, derived, halted, unknown, Evaluates, eval, eval-sound}
 use Rattle.schema.proofs.Laws.{has-one}
@@ -63,7 +62,7 @@ given c = found true (c .outcome) (c .named) (c .count) (c .steps) (c .run) 1 (c
 -- What is computed is what is given.
 computed-given : map computed cases ≡ map given cases
 unfolding foundBy computed given cases text leading column row digitsAfter number field fields lineAt openLine notLines headerOut variableOut
-    condition ruleOrder sheetOrder ruleOf ruleWithin callCondition handedCondition handedOrder closedBy checked handed classIn classOf actOf step run machine eval gts numbered sum
+    condition ruleOrder sheetOrder ruleOf ruleWithin callCondition handedCondition handedOrder checked handed classIn classOf actOf step run machine eval gts numbered sum
     put fresh count-fresh ℕ-discrete walk ask walked
 computed-given = refl
 

@@ -1,7 +1,7 @@
 -- A grammar whose rules call its own variables: its pairs are numbered by their cells, and call one another. Assumes nothing.
 use mathlib.Core.Bool.{Bool, true, false, cond, true≢false}
 use mathlib.Core.List.{List}
-use mathlib.Core.Path.{_≡_, sym, subst}
+use mathlib.Core.Path.{_≡_, refl, sym, subst}
 use Prim.Native.Nat.{ℕ, _+_, _≤_}
 use lib.Dec.{ltb, eqb}
 use lib.ListN.{length, getD}
@@ -21,6 +21,20 @@ byte-not-calls : (p B C D : ℕ) (b m : Bool) → cond b (cond m (gives (success
 byte-not-calls p B C D true true e = true≢false (cc)
 byte-not-calls p B C D true false e = true≢false (cc)
 byte-not-calls p B C D false m e = true≢false (cc)
+
+-- A rule of kind 2 or 3 has a result at every position.
+byte-gives : (p : ℕ) (b m : Bool) → (r : Result) × (cond b (cond m (gives (success (p + 1))) (gives failure)) atEnd ≡ gives r)
+byte-gives p true true = (success (p + 1), refl)
+byte-gives p true false = (failure, refl)
+byte-gives p false m = (failure, refl)
+
+pub byte-result : (b : ℕ) (s : List ℕ) (p : ℕ) → (r : Result) × (actOf (byte b) s p ≡ gives r)
+unfolding actOf
+byte-result b s p = byte-gives p (ltb p (length s)) (eqb (getD s p 0) b)
+
+pub class-result : (c : ℕ) (s : List ℕ) (p : ℕ) → (r : Result) × (actOf (class c) s p ≡ gives r)
+unfolding actOf
+class-result c s p = byte-gives p (ltb p (length s)) (eqb (classOf (getD s p 0)) c)
 
 -- Only a rule of kind 4 calls.
 pub calls-call : (r : Rule) (s : List ℕ) (p B C D : ℕ) → actOf r s p ≡ calls B C D → r ≡ call B C D

@@ -4,7 +4,7 @@ use mathlib.Core.Logic.{_≢_}
 use Prim.Native.Nat.{ℕ, _≤_}
 use native.Mathlib.Omega.{arith}
 use lib.Dec.{eqb}
-use Rattle.schema.specs.Derivation.{success, failure, missing, end, Outcome, result, stopped, loop}
+use Rattle.schema.specs.Derivation.{success, failure, missing, Outcome, result, stopped, loop}
 use Rattle.schema.specs.Table.{code}
 use Rattle.schema.specs.Verdict.{verdictCode}
 
@@ -13,7 +13,6 @@ pub code-full : (o : Outcome) → code o ≢ 0
 code-full (result (success q)) e = omega arith
 code-full (result failure) e = omega arith
 code-full (stopped missing) e = omega arith
-code-full (stopped end) e = omega arith
 code-full loop e = omega arith
 
 -- A verdict's code is at most 5, and so not that of a refusal.
@@ -25,5 +24,4 @@ verdict-code-most n (result (success q)) = by-test (eqb q n)
     by-test false = omega arith
 verdict-code-most n (result failure) = omega arith
 verdict-code-most n (stopped missing) = omega arith
-verdict-code-most n (stopped end) = omega arith
 verdict-code-most n loop = omega arith

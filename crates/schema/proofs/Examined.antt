@@ -1,5 +1,5 @@
--- Every derivation has a reach, a pair has one at most, it lies between the position and the end of the input, and a result depends on the bytes
--- before it only. Assumes nothing.
+-- Every derivation has a reach, a pair has one at most, it lies between the position and n + 1, and a result depends on the bytes before it
+-- only. Assumes nothing.
 use mathlib.Core.Bool.{Bool, true, false, cond, true≢false}
 use mathlib.Core.List.{List}
 use mathlib.Core.Path.{_≡_, refl, sym, ap, ap₂, _∙_}
@@ -7,7 +7,6 @@ use Prim.Native.Nat.{ℕ, _+_, max, _≤_, _<_}
 use native.Mathlib.Omega.{arith}
 use lib.Dec.{ltb, eqb}
 use lib.ListN.{length, getD}
-use borrow.Author.Tests.{ltb-true}
 use Rattle.classes.specs.Class.{classOf}
 use Rattle.grammar.specs.Rule.{Rule, absent, always, never, byte, class, call}
 use Rattle.schema.specs.Derivation as derivation
@@ -17,18 +16,13 @@ use Rattle.schema.proofs.Closed.{calls-call}
 use Rattle.schema.proofs.Ends.{positionOf, EndsWithin, derives-ends}
 use Rattle.schema.proofs.TwoInputs.{act-same}
 
-byte-bound : (s : List ℕ) (p : ℕ) (r : Result) (b m : Bool) → ltb p (length s) ≡ b → cond b (cond m (gives (success (p + 1))) (gives failure)) atEnd ≡ gives r → p + 1 ≤ length s
-byte-bound s p r true m h e = let l = ltb-true p (length s) h in omega arith
-byte-bound s p r false m h e = absurd (true≢false (cc))
-
-rule-bounds : (u : Rule) (s : List ℕ) (p : ℕ) (r : Result) → p ≤ length s → actOf u s p ≡ gives r → (p ≤ leafReach u p) × (leafReach u p ≤ length s)
-unfolding actOf
-rule-bounds absent s p r l e = (omega arith, l)
-rule-bounds always s p r l e = (omega arith, l)
-rule-bounds never s p r l e = (omega arith, l)
-rule-bounds (byte b) s p r l e = (omega arith, byte-bound s p r (ltb p (length s)) (eqb (getD s p 0) b) refl e)
-rule-bounds (class k) s p r l e = (omega arith, byte-bound s p r (ltb p (length s)) (eqb (classOf (getD s p 0)) k) refl e)
-rule-bounds (call B C D) s p r l e = (omega arith, l)
+rule-bounds : (u : Rule) (s : List ℕ) (p : ℕ) → p ≤ length s → (p ≤ leafReach u p) × (leafReach u p ≤ length s + 1)
+rule-bounds absent s p l = (omega arith, omega arith)
+rule-bounds always s p l = (omega arith, omega arith)
+rule-bounds never s p l = (omega arith, omega arith)
+rule-bounds (byte b) s p l = (omega arith, omega arith)
+rule-bounds (class k) s p l = (omega arith, omega arith)
+rule-bounds (call B C D) s p l = (omega arith, omega arith)
 
 -- A leaf that succeeds looks as far as it ends.
 byte-success : (p q : ℕ) (b m : Bool) → cond b (cond m (gives (success (p + 1))) (gives failure)) atEnd ≡ gives (success q) → p + 1 ≡ q
@@ -57,12 +51,12 @@ module _ (rule : ℕ → Rule) (s : List ℕ) where
 
   -- and every derivation has a reach,
   pub derives-examines : {x : Pair} {r : Result} {k h : ℕ} → Derives rule s x r k h → (m : ℕ) × Examines rule s x r m
-  derives-examines (derivation.leaf {x = x} e) = (leafReachOf rule x, leaf e)
+  derives-examines (derivation.leaf e) = (_, leaf e)
   derives-examines (derivation.node e d f) = let i = derives-examines d in let j = derives-examines f in (max (i .0) (j .0), node e (i .1) (j .1))
 
   -- one only.
   same-examined : {x y : Pair} {r t : Result} {m n : ℕ} → x ≡ y → Examines rule s x r m → Examines rule s y t n → (r ≡ t) × (m ≡ n)
-  same-examined q (leaf e) (leaf f) = (cc, ap (leafReachOf rule) q)
+  same-examined q (leaf e) (leaf f) = (cc, cc)
   same-examined q (leaf e) (node f i j) = absurd (true≢false (cc))
   same-examined q (node e i j) (leaf f) = absurd (true≢false (cc))
   same-examined q (node {A} {B} {C} {D} {p} {m} {n} {r} {t} e i j) (node {A = A′} {B = B′} {C = C′} {D = D′} {p = p′} {m = m′} {n = n′} {r = r′} {t = t′} f k l) =
@@ -84,12 +78,15 @@ module _ (rule : ℕ → Rule) (s : List ℕ) where
   reaches-one x (stopped w) m n i j = omega arith
   reaches-one x loop m n i j = omega arith
 
-  -- It lies between the position and n.
-  leaf-bounds : (x : Pair) (r : Result) → positionOf x ≤ length s → act rule s x ≡ gives r → (positionOf x ≤ leafReachOf rule x) × (leafReachOf rule x ≤ length s)
-  leaf-bounds (A at p) r l e = rule-bounds (rule A) s p r l e
+  -- It lies between the position and n + 1, the reach of a byte or class rule at n.
+  leaf-bounds : (x : Pair) → positionOf x ≤ length s → (positionOf x ≤ leafReachOf rule x) × (leafReachOf rule x ≤ length s + 1)
+  leaf-bounds (A at p) l = rule-bounds (rule A) s p l
 
-  pub reach-bounds : {x : Pair} {r : Result} {m : ℕ} → positionOf x ≤ length s → Examines rule s x r m → (positionOf x ≤ m) × (m ≤ length s)
-  reach-bounds l (leaf {x} {r} e) = leaf-bounds x r l e
+  pub reach-bounds : {x : Pair} {r : Result} {m : ℕ} → positionOf x ≤ length s → Examines rule s x r m → (positionOf x ≤ m) × (m ≤ length s + 1)
+  reach-bounds l (leaf {x} e) =
+      let a = leaf-bounds x l .0 in
+      let b = leaf-bounds x l .1 in
+      (omega arith, omega arith)
   reach-bounds l (node {A} {B} {C} {D} {p} {m} {n} {r} {t} e i j) =
       let a = reach-bounds l i in
       let d = examines-derives i in

@@ -47,8 +47,8 @@ module _ (s : List ℕ) (h : Handed) (g : Grammar) (e : handed s h ≡ accepted 
   handed-pair (A at p) q =
       let v = g .variables in
       let n = length (h .input) in
-      let a = tested-is (h .pair) (pairVariableOut v) (A at p) q (call-clear .1 .1 .0) in
-      let b = tested-is (h .pair) (pairPositionOut n) (A at p) q (call-clear .1 .1 .1 .0) in
+      let a = tested-is (h .pair) (pairVariableOut v) (A at p) q (call-clear .1 .0) in
+      let b = tested-is (h .pair) (pairPositionOut n) (A at p) q (call-clear .1 .1 .0) in
       let i = within-bounds 1 v A (not-false (within 1 v A) a) in
       record { variable = i; position = ltb-false n p b }
 
@@ -58,7 +58,7 @@ module _ (s : List ℕ) (h : Handed) (g : Grammar) (e : handed s h ≡ accepted 
   unfolding callCondition
   handed-slices table work q =
       let count = cells (g .variables) (length (h .input)) in
-      let a = tested-is (h .slices) (λ l. ltb (l .0) (2 * count) || ltb (l .1) count) (table, work) q (call-clear .1 .1 .1 .1 .0) in
+      let a = tested-is (h .slices) (λ l. ltb (l .0) (2 * count) || ltb (l .1) count) (table, work) q (call-clear .1 .1 .1 .0) in
       let b = neither-true (ltb table (2 * count)) (ltb work count) a in
       (ltb-false table (2 * count) (b .0), ltb-false work count (b .1))
 
@@ -67,4 +67,4 @@ module _ (s : List ℕ) (h : Handed) (g : Grammar) (e : handed s h ≡ accepted 
   unfolding callCondition
   handed-output out q =
       let count = cells (g .variables) (length (h .input)) in
-      ltb-false out (49 * count) (tested-is (h .output) (λ l. ltb l (49 * count)) out q (call-clear .1 .1 .1 .1 .1 .0))
+      ltb-false out (49 * count) (tested-is (h .output) (λ l. ltb l (49 * count)) out q (call-clear .1 .1 .1 .1 .0))

@@ -19,7 +19,6 @@ pub mod Walk
 pub mod Handed
 pub mod CallRefusals
 pub mod Following
-pub mod ClosedBy
 pub mod Tested
 pub mod SheetClosed
 pub mod LineLength

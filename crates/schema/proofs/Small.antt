@@ -10,7 +10,7 @@ use Rattle.grammar.specs.Rule.{Rule}
 use Rattle.grammar.specs.Sheet.{lines, grammarOf, notLines, condition, headerOrder, ruleOrder, sheetOrder, sheet}
 use Rattle.grammar.proofs.Refusals.{refused-each}
 use Rattle.grammar.proofs.Whole.{lines-whole}
-use Rattle.schema.specs.Derivation.{_at_, success, failure, missing, end, Outcome, result, stopped, loop, Has}
+use Rattle.schema.specs.Derivation.{_at_, success, failure, missing, Outcome, result, stopped, loop, Has}
 use Rattle.schema.specs.Handed.{Handed, handedCondition, callOrder, handedOrder, handed}
 use Rattle.schema.specs.Table.{code}
 use Rattle.schema.proofs.CallRefusals.{call-refused, call-numbers}
@@ -45,7 +45,7 @@ unfolding handedOrder sheetOrder
 call-lines s m =
     most-append 257 ((1, 0) ∷ headerOrder ++ ruleOrder 2 (lines s - 1)) callOrder
     (omega arith, (omega arith, (omega arith, rule-lines 257 2 (lines s - 1) (omega arith))))
-    (omega arith, (omega arith, (omega arith, (omega arith, (omega arith, (omega arith, tt))))))
+    (omega arith, (omega arith, (omega arith, (omega arith, (omega arith, tt)))))
 
 not-lines : (s : List ℕ) → notLines s ≡ true → sheet s ≡ refused 1 0
 unfolding sheet sheetOrder condition checked
@@ -66,5 +66,4 @@ pub code-small : (rule : ℕ → Rule) (s : List ℕ) (A p : ℕ) (o : Outcome) 
 code-small rule s A p (result (success q)) l m d = let e = derives-ends rule s l (d .2) in omega arith
 code-small rule s A p (result failure) l m d = omega arith
 code-small rule s A p (stopped missing) l m d = omega arith
-code-small rule s A p (stopped end) l m d = omega arith
 code-small rule s A p loop l m d = omega arith

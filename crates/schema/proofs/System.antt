@@ -101,7 +101,7 @@ module _ (rule : ℕ → Rule) (s : List ℕ) where
   from-done (theory.leaf {x = x} {a = r} q) = leaf (kind-gives (act rule s x) r q)
   from-done (theory.node {x = x} q d e) = node-at x q (from-done d) (from-done e)
 
-  -- Missing and end are its halts,
+  -- Missing is its halt,
   pub to-halt : {x : Pair} {w : Stop} → Stops rule s w x → Halt (gts rule s) w x
   unfolding gts
   to-halt (here e) = theory.stop (ap kindOf e)

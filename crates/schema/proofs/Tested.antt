@@ -12,7 +12,6 @@ use Rattle.grammar.proofs.Accepted.{describes}
 use Rattle.schema.specs.Derivation.{_at_}
 use Rattle.schema.specs.Handed.{Handed, callCondition, callOrder, handed, asked, questionOf, verdictOf}
 use Rattle.schema.specs.Table.{cells}
-use Rattle.schema.specs.Verdict.{closedBy}
 use Rattle.schema.proofs.CallRefusals.{handed-parts}
 
 -- The sheet's refusal is the call's;
@@ -68,10 +67,10 @@ module _ (s input : List ℕ) (A p table work : ℕ) where
 
 -- ---- The verdict.
 
--- A verdict by its tests for 6, 7 and 10.
-pub verdict-by : (s input : List ℕ) (g : Grammar) (table work : ℕ) (a b c : Bool) → sheet s ≡ accepted g
-    → ltb 4096 (length input) ≡ a → closedBy (g .endmarker) input ≡ b
+-- A verdict by its tests for 6 and 10.
+pub verdict-by : (s input : List ℕ) (g : Grammar) (table work : ℕ) (a c : Bool) → sheet s ≡ accepted g
+    → ltb 4096 (length input) ≡ a
     → (ltb table (2 * cells (g .variables) (length input)) || ltb work (cells (g .variables) (length input))) ≡ c
-    → handed s (verdictOf input table work) ≡ cond a (refused 6 0) (cond (not b) (refused 7 0) (cond c (refused 10 0) (accepted g)))
+    → handed s (verdictOf input table work) ≡ cond a (refused 6 0) (cond c (refused 10 0) (accepted g))
 unfolding checked callCondition
-verdict-by s input g table work a b c e k l m = handed-then s (verdictOf input table work) g e ∙ rw (k, l, m)
+verdict-by s input g table work a c e k m = handed-then s (verdictOf input table work) g e ∙ rw (k, m)

@@ -55,7 +55,7 @@ module _ (rule : ℕ → Rule) (s : List ℕ) (v : ℕ) (closed : Closed v rule)
       let m = means-cell rule s v closed x a w in
       (λ e. m .0 (d .0 e), λ h. d .1 (m .1 h))
 
-  -- A pair has an outcome: success with an end, failure, missing, end, or loop;
+  -- A pair has an outcome: success with an end, failure, missing, or loop;
   pub walk-has : Has rule s x (outcomeIn (walked rule s v x))
   walk-has = end-has rule s v closed x w walk-end
 

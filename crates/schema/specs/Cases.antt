@@ -8,7 +8,7 @@ use Rattle.grammar.specs.Refusal.{Checked, refused, accepted}
 use Rattle.grammar.specs.Rule.{Rule}
 use Rattle.grammar.specs.Sheet.{Grammar}
 use Rattle.grammar.specs.Printing.{text}
-use Rattle.schema.specs.Derivation.{Pair, _at_, success, failure, missing, end, Derives, Outcome, result, stopped, loop, Has}
+use Rattle.schema.specs.Derivation.{Pair, _at_, success, failure, missing, Derives, Outcome, result, stopped, loop, Has}
 use Rattle.schema.specs.Handed.{handed, questionOf, verdictOf}
 use Rattle.schema.specs.Machine.{says, spent, noFrame, Ran, ran, machine}
 use Rattle.schema.specs.Reached.{Reached, Named, Number}
@@ -71,20 +71,20 @@ cases =
     ∷ case sheetH (45 ∷ 54 ∷ 46 ∷ []) 9 2 (result (success 3)) (0 at 0) 5 (some (5, 3)) (ran noFrame 3) (accepted 0)
     -- "d. H, `6.`: success ending 2, 5 cells."
     ∷ case sheetH (54 ∷ 46 ∷ []) 9 3 (result (success 2)) (0 at 0) 5 (some (5, 3)) (ran (says (result (success 2))) 9) (accepted 0)
-    -- "e. H, `-6`: end, named (5, 2), 5 cells."
-    ∷ case sheetH (45 ∷ 54 ∷ []) 100 20 (stopped end) (5 at 2) 5 none (ran (says (stopped end)) 6) (refused 7 0)
+    -- e. H, `-6`; order 11: "case e becomes a failure with 5 cells".
+    ∷ case sheetH (45 ∷ 54 ∷ []) 100 20 (result failure) (0 at 0) 5 (some (5, 3)) (ran (says (result failure)) 9) (accepted 1)
     -- "f. H, `x`: failure, 5 cells."
-    ∷ case sheetH (120 ∷ []) 9 3 (result failure) (0 at 0) 5 (some (5, 3)) (ran (says (result failure)) 9) (refused 7 0)
+    ∷ case sheetH (120 ∷ []) 9 3 (result failure) (0 at 0) 5 (some (5, 3)) (ran (says (result failure)) 9) (accepted 1)
     -- "g. Rule 1 = 1(1,1), empty entry: loop, named (1, 0), 1 cell."
-    ∷ case (header 1 ∷ (1 ∷ 4 ∷ 1 ∷ 1 ∷ 1 ∷ []) ∷ []) [] 100 20 loop (1 at 0) 1 none (ran noFrame 19) (refused 7 0)
+    ∷ case (header 1 ∷ (1 ∷ 4 ∷ 1 ∷ 1 ∷ 1 ∷ []) ∷ []) [] 100 20 loop (1 at 0) 1 none (ran noFrame 19) (accepted 2)
     -- "h. 1 = 2(1,3), 2 succeeds, 3 fails: loop, named (1, 0), 2 cells."
     ∷ case (header 3 ∷ (1 ∷ 4 ∷ 2 ∷ 1 ∷ 3 ∷ []) ∷ (2 ∷ 0 ∷ 0 ∷ 0 ∷ 0 ∷ []) ∷ (3 ∷ 1 ∷ 0 ∷ 0 ∷ 0 ∷ []) ∷ []) [] 20 20 loop (1 at 0) 2 none (ran spent 20)
-    (refused 7 0)
+    (accepted 2)
     -- "i. 1 = 2(1,3), 2 = byte 97, 3 succeeds, `aa.`: success ending 2, 7 cells, 13 moves; verdict partial."
     ∷ case (header 3 ∷ (1 ∷ 4 ∷ 2 ∷ 1 ∷ 3 ∷ []) ∷ (2 ∷ 2 ∷ 97 ∷ 0 ∷ 0 ∷ []) ∷ (3 ∷ 0 ∷ 0 ∷ 0 ∷ 0 ∷ []) ∷ []) (97 ∷ 97 ∷ 46 ∷ []) 13 4
     (result (success 2)) (0 at 0) 7 (some (7, 4)) (ran (says (result (success 2))) 13) (accepted 5)
     -- "j. 1 = 2(2,2), no rule 2: missing, named (2, 0), 2 cells, 1 move."
-    ∷ case (header 2 ∷ (1 ∷ 4 ∷ 2 ∷ 2 ∷ 2 ∷ []) ∷ []) [] 1 2 (stopped missing) (2 at 0) 2 none (ran (says (stopped missing)) 1) (refused 7 0)
+    ∷ case (header 2 ∷ (1 ∷ 4 ∷ 2 ∷ 2 ∷ 2 ∷ []) ∷ []) [] 1 2 (stopped missing) (2 at 0) 2 none (ran (says (stopped missing)) 1) (accepted 3)
     ∷ []
 
 -- ---- What it is that a case holds.

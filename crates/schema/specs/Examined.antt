@@ -5,7 +5,7 @@ use Prim.Native.Nat.{ℕ, _+_, max}
 use Rattle.grammar.specs.Rule.{Rule, absent, always, never, byte, class, call}
 use Rattle.schema.specs.Derivation.{Pair, _at_, Result, gives, calls, act, second, Outcome, result, stopped, loop}
 
--- "A leaf of kind 0 or 1 reaches its place; a byte or class rule reaches one past it." The other two are no leaves.
+-- "A leaf of kind 0 or 1 reaches its place; a byte or class rule reaches one past it", order 11: at place n "with reach n + 1". The other two are no leaves.
 abbrev pub leafReach : Rule → ℕ → ℕ
 leafReach absent p = p
 leafReach always p = p
@@ -25,7 +25,7 @@ pub data Examines (rule : ℕ → Rule) (s : List ℕ) : Pair → Result → ℕ
   node : {A B C D p m n : ℕ} {r t : Result} → act rule s (A at p) ≡ calls B C D → Examines rule s (B at p) t m
       → Examines rule s (second C D p t) r n → Examines rule s (A at p) r (max m n)
 
--- The reach of a pair's outcome: "Loop, missing and end have reach 0."
+-- The reach of a pair's outcome: "Loop, missing .. have reach 0."
 abbrev pub Reaches : (ℕ → Rule) → List ℕ → Pair → Outcome → ℕ → Type 0
 Reaches rule s x (result r) m = Examines rule s x r m
 Reaches rule s x (stopped w) m = m ≡ 0

@@ -1,5 +1,5 @@
 -- Document 01, "Who can bring on which number": what a call is handed, and its refusals 6 to 11. Assumes nothing.
-use mathlib.Core.Bool.{Bool, true, false, cond, not, _&&_, _||_}
+use mathlib.Core.Bool.{Bool, false, cond, not, _||_}
 use mathlib.Core.List.{List, [], _∷_, _++_}
 use mathlib.Core.Option.{Option, none, some}
 use Prim.Native.Nat.{ℕ, _*_}
@@ -11,13 +11,11 @@ use Rattle.grammar.specs.Rule.{within}
 use Rattle.grammar.specs.Sheet.{Grammar, grammarOf, condition, sheetOrder}
 use Rattle.schema.specs.Derivation.{Pair, _at_}
 use Rattle.schema.specs.Table.{cells}
-use Rattle.schema.specs.Verdict.{closedBy}
 
 -- What a call is handed beside the sheet: the input (document 01: the entry), and where it is handed them, the pair in question,
 -- the lengths of the table and of the work slice, and the length of the output.
 pub record Handed : Type 0 where
   pub input : List ℕ
-  pub verdict : Bool
   pub pair : Option Pair
   pub slices : Option (ℕ × ℕ)
   pub output : Option ℕ
@@ -30,10 +28,6 @@ tested (some a) out = out a
 -- "6, entry over 4,096."
 abbrev pub inputLong : Handed → Bool
 inputLong h = ltb 4096 (length (h .input))
-
--- "7, verdict only: the endmarker isn't the last byte or stands earlier too; an empty entry."
-abbrev pub endmarkerOut : Grammar → Handed → Bool
-endmarkerOut g h = h .verdict && not (closedBy (g .endmarker) (h .input))
 
 -- "8, variable not in 1 to V."
 abbrev pub pairVariableOut : ℕ → Pair → Bool
@@ -57,20 +51,19 @@ callCondition g h number line =
     let n = length (h .input) in
     let count = cells (g .variables) n in
     cond (eqb number 6) (inputLong h)
-    (cond (eqb number 7) (endmarkerOut g h)
     (cond (eqb number 8) (tested (h .pair) (pairVariableOut (g .variables)))
     (cond (eqb number 9) (tested (h .pair) (pairPositionOut n))
     (cond (eqb number 10) (tested (h .slices) (slicesShort count))
     (cond (eqb number 11) (tested (h .output) (outputShort count))
-    false)))))
+    false))))
 
 -- The condition of a refusal by its number, at a line: 1 to 5 are the sheet's, 6 to 11 the call's.
 unfoldable pub handedCondition : List ℕ → Handed → ℕ → ℕ → Bool
 handedCondition s h = from 6 (callCondition (grammarOf s) h) (condition s)
 
--- "then 6, 7, 8, 9, 10, 11"
+-- "then 6, 7, 8, 9, 10, 11", order 11: "Refusal 7 no longer occurs".
 abbrev pub callOrder : List (ℕ × ℕ)
-callOrder = (6, 0) ∷ (7, 0) ∷ (8, 0) ∷ (9, 0) ∷ (10, 0) ∷ (11, 0) ∷ []
+callOrder = (6, 0) ∷ (8, 0) ∷ (9, 0) ∷ (10, 0) ∷ (11, 0) ∷ []
 
 -- "Order: 1 over the sheet; line 1 for 2, 3; each next line for 2, 4, 5; then 6, 7, 8, 9, 10, 11."
 unfoldable pub handedOrder : List ℕ → List (ℕ × ℕ)
@@ -88,16 +81,16 @@ handed s h = checked (handedCondition s h) (handedOrder s) (grammarOf s)
 
 -- The input and the pair, as every question about a pair.
 abbrev pub asked : List ℕ → Pair → Handed
-asked input x = record { input = input; verdict = false; pair = some x; slices = none; output = none }
+asked input x = record { input = input; pair = some x; slices = none; output = none }
 
 -- "A question is sheet bytes, entry, variable and place, with a lent table and a lent work slice".
 abbrev pub questionOf : List ℕ → Pair → ℕ → ℕ → Handed
-questionOf input x table work = record { input = input; verdict = false; pair = some x; slices = some (table, work); output = none }
+questionOf input x table work = record { input = input; pair = some x; slices = some (table, work); output = none }
 
--- The verdict: no pair, and "7, verdict only".
+-- The verdict: no pair.
 abbrev pub verdictOf : List ℕ → ℕ → ℕ → Handed
-verdictOf input table work = record { input = input; verdict = true; pair = none; slices = some (table, work); output = none }
+verdictOf input table work = record { input = input; pair = none; slices = some (table, work); output = none }
 
 -- What the writer is handed: what a question is, and the output.
 abbrev pub writerOf : List ℕ → Pair → ℕ → ℕ → ℕ → Handed
-writerOf input x table work out = record { input = input; verdict = false; pair = some x; slices = some (table, work); output = some out }
+writerOf input x table work out = record { input = input; pair = some x; slices = some (table, work); output = some out }

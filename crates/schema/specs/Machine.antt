@@ -53,7 +53,7 @@ operandD (gives r) = 0
 operandD (stops w) = 0
 operandD (calls B C D) = D
 
--- "stage 0, no rule: missing; kinds 2, 3 at n: end. These are no moves"; "other leaf: pop"; "kind 4: stage 1, push B at the place"
+-- "stage 0, no rule: missing; .. no moves"; "other leaf: pop"; "kind 4: stage 1, push B at the place"
 abbrev pub stage0Of : Act → Flag → ℕ → ℕ → ℕ → ℕ → List Frame → Next
 stage0Of (stops w) flag X i p moves stack = outcome (stopped w)
 stage0Of (gives r) flag X i p moves stack = move (popped r p (moves + 1) stack)

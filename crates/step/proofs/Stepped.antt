@@ -149,7 +149,6 @@ module _ (rule : ℕ → Rule) (s : List ℕ) where
         go (step.Ended (walk.Settled d)) h = (subst (Settles rule s T W T′ W x) (sym (h .0)) settles, h .1)
         go (step.Ended (walk.Loop A p B q d)) h = absurd h
         go (step.Ended (walk.Missing A p d)) h = absurd h
-        go (step.Ended (walk.End A p d)) h = absurd h
 
     pub steps-resume : (z : Step) → Resumes rule (length s) T₁ W T′ x c z → Steps rule s T W T′ W x z
     steps-resume z (inl h) = steps-settle (h .0) (h .1 .0) (h .1 .1) (h .1 .2) z (h .2)

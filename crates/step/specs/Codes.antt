@@ -17,7 +17,7 @@ use Rattle.schema.specs.Table.{Ends, cells, code, held, reach}
 abbrev pub openMark : ℕ
 openMark = 4294967295
 
--- A cell that the walk still has to walk: blank, or kept from a loop, a missing rule or an end.
+-- A cell that the walk still has to walk: blank, or kept from a loop or a missing rule.
 pub record Unsettled (c : ℕ) : Type 0 where
   pub no-failure : c ≢ 1
   pub no-success : c < 5

@@ -8,7 +8,7 @@ use lib.Dec.{eqb}
 use lib.ListN.{length, getD, set}
 use Rattle.grammar.specs.Rule.{Rule, call}
 use Rattle.schema.specs.Cells.{stored, HasCell}
-use Rattle.schema.specs.Derivation.{Pair, _at_, Result, Stop, missing, end, gives, stops, calls, act, second}
+use Rattle.schema.specs.Derivation.{Pair, _at_, Result, Stop, missing, gives, stops, calls, act, second}
 use Rattle.schema.specs.Examined.{leafReachOf}
 use Rattle.schema.specs.Table.{Within, cell, cells, held, reach}
 use Rattle.cells.specs.Packed.{entry}
@@ -84,7 +84,6 @@ GoesBack W x c (step.On y) = Returns W x y
 GoesBack W x c (step.Ended (walk.Settled d)) = (d ≡ c .0) × (x .depth ≡ 0)
 GoesBack W x c (step.Ended (walk.Loop A p B q d)) = ⊥
 GoesBack W x c (step.Ended (walk.Missing A p d)) = ⊥
-GoesBack W x c (step.Ended (walk.End A p d)) = ⊥
 
 -- y is x with the second call next: that of C where the first one ended, or of D where the pair stands.
 abbrev pub ToSecond : (ℕ → Rule) → State → Cell → State → Type 0
@@ -143,7 +142,7 @@ pub record Descends (rule : ℕ → Rule) (s : List ℕ) (x y : State) : Type 0 
   pub first-call : y .second ≡ false
   pub depth-is : y .depth ≡ x .depth + 1
 
--- It has no rule, or no byte.
+-- It has no rule.
 pub record Stuck (rule : ℕ → Rule) (s : List ℕ) (x : State) (w : Stop) (y : Pair) (d : ℕ) : Type 0 where
   pub acts : act rule s (calledOf x) ≡ stops w
   pub pair-is : y ≡ calledOf x
@@ -163,7 +162,6 @@ abbrev pub StepEnds : (ℕ → Rule) → List ℕ → List ℕ → List ℕ → 
 StepEnds rule s T W T′ W′ x (walk.Settled c) = Settles rule s T W T′ W′ x c × (x .depth ≡ 0)
 StepEnds rule s T W T′ W′ x (walk.Loop A p B q d) = Repeats s T W T′ W′ x (A at p) (B at q) d
 StepEnds rule s T W T′ W′ x (walk.Missing A p d) = Opens s T W T′ W′ x × Stuck rule s x missing (A at p) d
-StepEnds rule s T W T′ W′ x (walk.End A p d) = Opens s T W T′ W′ x × Stuck rule s x end (A at p) d
 
 -- One step from x.
 abbrev pub Steps : (ℕ → Rule) → List ℕ → List ℕ → List ℕ → List ℕ → List ℕ → State → Step → Type 0

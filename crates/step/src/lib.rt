@@ -31,13 +31,12 @@ pub struct State {
     pub depth: usize,
 }
 
-// What a walk ends with: the number of a result; a pair met a second time, and the one that called it; or the pair that has no rule or no byte;
+// What a walk ends with: the number of a result; a pair met a second time, and the one that called it; or the pair that has no rule;
 // but for a result with the number of callers in the work slice.
 pub enum Walk {
     Settled(u32),
     Loop(u32, u32, u32, u32, usize),
     Missing(u32, u32, usize),
-    End(u32, u32, usize),
 }
 
 // What a step comes to.
@@ -190,10 +189,6 @@ fn advance_unsettled(
         Act::Missing => {
             open_called(n, table, work, x);
             Step::Ended(Walk::Missing(x.called, x.target, x.depth + 1))
-        }
-        Act::End => {
-            open_called(n, table, work, x);
-            Step::Ended(Walk::End(x.called, x.target, x.depth + 1))
         }
     }
 }

@@ -26,7 +26,6 @@ fn report_run(ending: Ending, out: &mut [u32; 3]) -> u32
         Ending::Success(end, moves) => [Cell::SUCCESS.0 + end, end, moves],
         Ending::Failure(moves) => [Cell::FAILURE.0, 0, moves],
         Ending::Missing(moves) => [Cell::MISSING.0, 0, moves],
-        Ending::End(moves) => [Cell::END.0, 0, moves],
         Ending::Spent(moves) => [SPENT, 0, moves],
         Ending::NoFrame(moves) => [NO_FRAME, 0, moves],
         Ending::Refused(number, _) => {
@@ -38,7 +37,7 @@ fn report_run(ending: Ending, out: &mut [u32; 3]) -> u32
 }
 
 // The machine's run on a variable at a position of the input, over lent frames. The answer: the outcome's code (5 + q for success ending at q,
-// 1 failure, 3 missing, 4 end, 10,000 spent, 10,001 no frame), the end on success or else 0, the moves.
+// 1 failure, 3 missing, 10,000 spent, 10,001 no frame), the end on success or else 0, the moves.
 #[no_mangle]
 pub extern "C" fn test_run(
     sheet: &[u8],

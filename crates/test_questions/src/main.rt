@@ -47,7 +47,7 @@
 //     12, restore    code, refusal number, refused line, 0, sum of the lent kept table
 //     13, edit       three zeros, the byte that stood there before, and 0
 //
-// The codes: 0 success or done, 1 failure, 2 loop, 3 missing, 4 end, 6 spent, 7 no frame, 8 no opening, 9 refused. Table and output are filled
+// The codes: 0 success or done, 1 failure, 2 loop, 3 missing, 6 spent, 7 no frame, 8 no opening, 9 refused. Table and output are filled
 // before each call but a correction and a further question, so that their sums also show what a call must leave unchanged; of two tables the
 // one that is written to is filled. A table's sum is over outcomes and reaches alike.
 ghost use Prim.Native.Nat.{_<_, _≤_};
@@ -157,7 +157,6 @@ fn numbers_of_answer(answer: Answer) -> Four {
         Answer::Failure(count) => Four(1, 0, 0, count),
         Answer::Loop(variable, position, count) => Four(2, variable, position, count),
         Answer::Missing(variable, position, count) => Four(3, variable, position, count),
-        Answer::End(variable, position, count) => Four(4, variable, position, count),
         Answer::Refused(number, line) => Four(9, number, line, 0),
     }
 }
@@ -167,7 +166,6 @@ fn numbers_of_ending(ending: Ending) -> Four {
         Ending::Success(end, moves) => Four(0, 0, end, moves),
         Ending::Failure(moves) => Four(1, 0, 0, moves),
         Ending::Missing(moves) => Four(3, 0, 0, moves),
-        Ending::End(moves) => Four(4, 0, 0, moves),
         Ending::Spent(moves) => Four(6, 0, 0, moves),
         Ending::NoFrame(moves) => Four(7, 0, 0, moves),
         Ending::Refused(number, line) => Four(9, number, line, 0),

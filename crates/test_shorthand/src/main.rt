@@ -12,7 +12,7 @@
 // whether all bytes behind the returned length, under a refusal all bytes, are unchanged (1 or 0). Where the text is accepted there are two
 // fields more: whether V is as the request says, and whether the start variable is 1 and the endmarker 46. Then comes a line for each variable
 // from 1 to the least V, the letters: the number of the request's line, the variable, and its outcome at each position of the entry, from 0 to
-// its length: 5 plus the end for success, 1 failure, 2 loop, 3 missing, 4 end, 0 a refusal.
+// its length: 5 plus the end for success, 1 failure, 2 loop, 3 missing, 0 a refusal.
 //
 // After the requests come four long texts that are made here, with the number 0.
 ghost use Rattle.io.specs.Counts.{Counts};
@@ -62,7 +62,6 @@ fn print_outcome(sheet: &[u8], input: &[u8], variable: u32, position: u32) {
         Answer::Failure(_) => print_field(1),
         Answer::Loop(_, _, _) => print_field(2),
         Answer::Missing(_, _, _) => print_field(3),
-        Answer::End(_, _, _) => print_field(4),
         Answer::Refused(_, _) => print_field(0),
     }
 }

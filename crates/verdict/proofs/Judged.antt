@@ -1,6 +1,6 @@
 -- The verdict: its tests, from the reading of its sheet on, and the answer to what they admit. Assumes nothing.
 use mathlib.Core.Path.{_≡_, refl, sym, _∙_, subst}
-use mathlib.Core.Bool.{Bool, cond, not, _||_}
+use mathlib.Core.Bool.{Bool, cond, _||_}
 use mathlib.Core.List.{List}
 use Prim.Native.Nat.{ℕ, _*_, _≤_}
 use lib.Dec.{ltb}
@@ -9,7 +9,7 @@ use borrow.Author.Tests.{le-ltb}
 use Rattle.grammar.specs.Refusal.{Checked, refused, accepted}
 use Rattle.grammar.specs.Rule.{Rule}
 use Rattle.grammar.specs.Sheet.{Grammar, sheet}
-use Rattle.grammar.specs.Promise.{SheetPromise, told, lineOne}
+use Rattle.grammar.specs.Promise.{SheetPromise}
 use Rattle.grammar.specs.Words.{ruleIn}
 use Rattle.grammar.specs.declared.sheet.Grammar.{Grammar as Line}
 use Rattle.grammar.specs.declared.sheet.Sheet.{Sheet}
@@ -19,7 +19,6 @@ use Rattle.grammar.proofs.Told.{Reads, told-refused, told-read, line-says}
 use Rattle.schema.specs.Derivation.{_at_}
 use Rattle.schema.specs.Handed.{Handed, handed, verdictOf}
 use Rattle.schema.specs.Table.{Within, cells}
-use Rattle.schema.specs.Verdict.{closedBy}
 use Rattle.schema.proofs.Handed.{handed-sheet, handed-input, handed-slices}
 use Rattle.schema.proofs.SheetClosed.{start-within}
 use Rattle.schema.proofs.Tested.{handed-refused, verdict-by}
@@ -48,19 +47,19 @@ module _ {s before after : List ℕ} {r : Sheet} (promise : SheetPromise s befor
     pub few : l .variables ≤ 256
     few = subst (λ (n : ℕ). n ≤ 256) (read .variables-are) (grammar-in-range s (read .grammar) (read .accepts) .1)
 
-    -- Whether the input is too long, whether it is closed, and whether the slices are too small.
-    module _ {a b c : Bool} (long : ltb 4096 (length input) ≡ a) (closed : b ≡ closedBy (l .endmarker) input)
+    -- Whether the input is too long, and whether the slices are too small.
+    module _ {a c : Bool} (long : ltb 4096 (length input) ≡ a)
         (small : c ≡ (ltb table (2 * cells (l .variables) (length input)) || ltb work (cells (l .variables) (length input)))) where
-      follows : handed s (verdictOf input table work) ≡ cond a (refused 6 0) (cond (not b) (refused 7 0) (cond c (refused 10 0) (accepted (read .grammar))))
-      follows = verdict-by s input (read .grammar) table work a b c (read .accepts) long (rw (read .endmarker-is) (sym closed)) (rw (read .variables-are) (sym small))
+      follows : handed s (verdictOf input table work) ≡ cond a (refused 6 0) (cond c (refused 10 0) (accepted (read .grammar)))
+      follows = verdict-by s input (read .grammar) table work a c (read .accepts) long (rw (read .variables-are) (sym small))
 
-      -- Refused with 6, 7 or 10,
-      pub refused-then : {x : ℕ} → ((g : Grammar) → cond a (refused 6 0) (cond (not b) (refused 7 0) (cond c (refused 10 0) (accepted g))) ≡ refused x 0)
+      -- Refused with 6 or 10,
+      pub refused-then : {x : ℕ} → ((g : Grammar) → cond a (refused 6 0) (cond c (refused 10 0) (accepted g)) ≡ refused x 0)
           → Admits s (verdictOf input table work) before after (Refused x 0)
       refused-then {x} h = admits s (verdictOf input table work) before after (Refused x 0) (promise .stores) (follows ∙ h (read .grammar)) refl
 
       -- or admitted.
-      pub admitted-then : ((g : Grammar) → cond a (refused 6 0) (cond (not b) (refused 7 0) (cond c (refused 10 0) (accepted g))) ≡ accepted g)
+      pub admitted-then : ((g : Grammar) → cond a (refused 6 0) (cond c (refused 10 0) (accepted g)) ≡ accepted g)
           → Admits s (verdictOf input table work) before after (Read l)
       admitted-then h = admits s (verdictOf input table work) before after (Read l) (promise .stores) (follows ∙ h (read .grammar)) (sym (line-says read))
 

@@ -11,16 +11,15 @@ use Rattle.schema.specs.Verdict.{verdictCode}
 use Rattle.finish.specs.Reply.{Reply, reply}
 use Rattle.memo.specs.Answer.{Says}
 use Rattle.verdict.specs.declared.Judgement.{Judgement}
-use Rattle.verdict.specs.declared.Judgement.the-variants.{Recognised, Partial, Failure, Loop, Missing, End, Refused}
+use Rattle.verdict.specs.declared.Judgement.the-variants.{Recognised, Partial, Failure, Loop, Missing, Refused}
 
--- "code (0 recognised, 1 failure, 2 loop, 3 missing, 4 end, 5 partial, 9 refused), named variable or refusal number,
+-- "code (0 recognised, 1 failure, 2 loop, 3 missing, .. 5 partial, 9 refused), named variable or refusal number,
 -- place (end, named place, refused line, or 0), cells (0 if refused)": what each case of a verdict says.
 abbrev pub numbers : Judgement → List ℕ
 numbers (Recognised q count) = 0 ∷ 0 ∷ q ∷ count ∷ []
 numbers (Failure count) = 1 ∷ 0 ∷ 0 ∷ count ∷ []
 numbers (Loop A p count) = 2 ∷ A ∷ p ∷ count ∷ []
 numbers (Missing A p count) = 3 ∷ A ∷ p ∷ count ∷ []
-numbers (End A p count) = 4 ∷ A ∷ p ∷ count ∷ []
 numbers (Partial q count) = 5 ∷ 0 ∷ q ∷ count ∷ []
 numbers (Refused number line) = 9 ∷ number ∷ line ∷ 0 ∷ []
 

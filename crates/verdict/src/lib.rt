@@ -1,9 +1,7 @@
 // The verdict: the question about the start variable at position 0.
 ghost use mathlib.Core.Path.{_≡_};
-ghost use lib.Dec.{eqb};
 ghost use lib.ListN.{length};
 ghost use Rattle.schema.specs.Handed.{verdictOf};
-ghost use Rattle.schema.specs.Verdict.{closedBy};
 ghost use Rattle.rules.specs.Admission.{Admits};
 ghost use Rattle.finish.specs.Reply.{told};
 ghost use Rattle.verdict.specs.Verdict.{numbers, judged, VerdictPromise};
@@ -14,37 +12,15 @@ use grammar::sheet::read_sheet;
 use memo::ask;
 use memo::too_small;
 
-// What a verdict says, with the count of decided cells: recognised or partial with the end, failure; loop, a missing rule or the end of the
-// input with the variable and the position that are named; or the number and the line of a refusal.
+// What a verdict says, with the count of decided cells: recognised or partial with the end, failure; loop or a missing rule with
+// the variable and the position that are named; or the number and the line of a refusal.
 pub enum Judgement {
     Recognised(u32, u32),
     Partial(u32, u32),
     Failure(u32),
     Loop(u32, u32, u32),
     Missing(u32, u32, u32),
-    End(u32, u32, u32),
     Refused(u32, u32),
-}
-
-// Whether a byte is the endmarker.
-fn is_endmarker(byte: u8, endmarker: u32) -> bool
-    ensures { λ r. ⌜ r ≡ eqb byte endmarker ⌝ }
-{
-    byte as u32 == endmarker
-}
-
-// Whether the endmarker is the last byte and stands nowhere else.
-fn closed_by(endmarker: u32, input: &[u8]) -> bool
-    ensures { λ r. ⌜ r ≡ closedBy endmarker (now (input .entry)) ⌝ }
-{
-    let mut i: usize = 0;
-    while i < input.len() {
-        if is_endmarker(input[i], endmarker) {
-            return i + 1 == input.len();
-        }
-        i += 1;
-    }
-    false
 }
 
 // The verdict of an answer about the start variable at 0, on n bytes.
@@ -61,7 +37,6 @@ fn judge(answer: Answer, n: usize) -> Judgement
         Answer::Failure(count) => Judgement::Failure(count),
         Answer::Loop(variable, position, count) => Judgement::Loop(variable, position, count),
         Answer::Missing(variable, position, count) => Judgement::Missing(variable, position, count),
-        Answer::End(variable, position, count) => Judgement::End(variable, position, count),
         Answer::Refused(number, line) => Judgement::Refused(number, line),
     }
 }
@@ -75,13 +50,12 @@ pub fn numbers_of(judgement: Judgement) -> [u32; 4]
         Judgement::Failure(count) => [1, 0, 0, count],
         Judgement::Loop(variable, position, count) => [2, variable, position, count],
         Judgement::Missing(variable, position, count) => [3, variable, position, count],
-        Judgement::End(variable, position, count) => [4, variable, position, count],
         Judgement::Partial(end, count) => [5, 0, end, count],
         Judgement::Refused(number, line) => [9, number, line, 0],
     }
 }
 
-// The grammar of a sheet, its rules in the lent array, for a verdict on an input with slices of these lengths; or the first of refusals 1 to 7
+// The grammar of a sheet, its rules in the lent array, for a verdict on an input with slices of these lengths; or the first of refusals 1 to 6
 // and 10.
 pub fn admit_verdict(
     sheet: &[u8],
@@ -98,9 +72,6 @@ pub fn admit_verdict(
         Sheet::Read(grammar) => {
             if 4096 < input.len() {
                 return Sheet::Refused(6, 0);
-            }
-            if !closed_by(grammar.endmarker, input) {
-                return Sheet::Refused(7, 0);
             }
             if too_small(grammar.variables, input.len(), table, work) {
                 return Sheet::Refused(10, 0);

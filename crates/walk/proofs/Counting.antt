@@ -84,7 +84,6 @@ module _ (rule : ℕ → Rule) (s : List ℕ) (v : ℕ) (closed : Closed v rule)
       let t = ap (λ (M : List ℕ). decided N M) (h .table-same) in
       omega arith
   end-counts T′ W′ (walk.Missing A p d) h = opens-counts (h .0)
-  end-counts T′ W′ (walk.End A p d) h = opens-counts (h .0)
 
 -- What holds before each step: the count so far is of the cells that were given their first number since the table T₀.
 pub record Counting (rule : ℕ → Rule) (s : List ℕ) (v : ℕ) (x : Pair) (O U T₀ T W : List ℕ) (y : State) (count : ℕ) : Type 0 where

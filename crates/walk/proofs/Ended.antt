@@ -2,7 +2,7 @@
 use mathlib.Core.Path.{_≡_, refl, sym, ap, _∙_, subst}
 use mathlib.Core.Bool.{Bool}
 use mathlib.Core.List.{List, [], _∷_, map, List·Memᴰ, Memᴰ·map, Memᴰ·of-map}
-use mathlib.Core.Logic.{_⊎_, inl, inr, _≢_}
+use mathlib.Core.Logic.{_⊎_, inl, inr}
 use Prim.Native.Nat.{ℕ, _-_, _*_, _≤_, _<_}
 use native.Mathlib.Omega.{arith}
 use lib.ListN.{length}
@@ -15,7 +15,7 @@ use Rattle.calls.proofs.Reach.{Reach}
 use Rattle.calls.proofs.System.{Answer, value, halts, loops}
 use Rattle.calls.proofs.Table.{Mark, blank, opened, settled}
 use Rattle.grammar.specs.Rule.{Rule}
-use Rattle.schema.specs.Cells.{heldAt, reachAt, stored}
+use Rattle.schema.specs.Cells.{heldAt, stored}
 use Rattle.schema.proofs.Cells.{view}
 use Rattle.schema.specs.Closed.{Closed}
 use Rattle.schema.specs.Derivation.{Pair, _at_, Result, Stop, stops, act, result, stopped, loop}
@@ -136,7 +136,7 @@ module _ (rule : ℕ → Rule) (s : List ℕ) (v : ℕ) (closed : Closed v rule)
       (mark-open (held (length s) T (b at q)) e))
       (b at q) (pair-cell v (length s) (b at q) (called-within rule s v closed within c))
 
-  -- The pair has no rule, or no byte.
+  -- The pair has no rule.
   pub stuck-ends : (t : Stop) → act rule s (a at p) ≡ stops t → TableEnds rule s v x O T (stopped t) (a at p) opens-here
   stuck-ends t e =
       table-ends rule s v closed short x w O T (cell (length s) (a at p) ∷ stack) g (halts t) (cell (length s) (a at p))

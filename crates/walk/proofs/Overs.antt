@@ -1,5 +1,5 @@
 -- Asking over the table as it is: the walk, the closing, the count of what is new. Assumes nothing.
-use mathlib.Core.List.{List, []}
+use mathlib.Core.List.{List}
 use mathlib.Core.Logic.{inl, inr, _≢_}
 use mathlib.Core.Path.{_≡_, refl, sym, ap, _∙_, subst}
 use Prim.Native.Nat.{ℕ, _+_, _-_, _*_, _≤_, _<_}
@@ -9,8 +9,8 @@ use lib.ListN.{length, drop}
 use Rattle.grammar.specs.Refusal.{Checked, accepted}
 use Rattle.grammar.specs.Rule.{Rule}
 use Rattle.schema.specs.Cells.{heldAt, reachAt, stored, HasCell}
-use Rattle.schema.proofs.Cells.{stored-there, stored-reach, stored-elsewhere, reach-elsewhere, stored-later, stored-length}
-use Rattle.schema.specs.Derivation.{Pair, _at_, Result, end, second, result, Has, success, failure}
+use Rattle.schema.proofs.Cells.{stored-there, stored-elsewhere, reach-elsewhere, stored-later, stored-length}
+use Rattle.schema.specs.Derivation.{Pair, _at_, Result, second, result, Has, success, failure}
 use Rattle.schema.specs.Examined.{Examines, Reaches}
 use Rattle.schema.specs.Reached.{Reached, itself, first-of, second-of}
 use Rattle.schema.specs.Table.{Ends, Within, cell, cells, decided, held, reach, contents, Holds, Table, code}
@@ -43,7 +43,6 @@ ended-small : (n : ℕ) (end : Walk) → SettledCode n end → code (outcomeOf e
 ended-small n (walk.Settled c) s = rw (result-is n c (s .0) (s .1)) (result-small n (s .0) (s .1 .ends))
 ended-small n (walk.Loop A p B q d) s = omega arith
 ended-small n (walk.Missing A p d) s = omega arith
-ended-small n (walk.End A p d) s = omega arith
 
 -- The asked cell is in the table.
 pub over-in : {rule : ℕ → Rule} {s : List ℕ} {v A p : ℕ} {T W : List ℕ} → OverReady rule s v A p T W → HasCell T (cell (length s) (A at p))
@@ -158,7 +157,6 @@ module _ {rule : ℕ → Rule} {s : List ℕ} {v A p : ℕ} {T W : List ℕ} (r 
         record { few = r .few; short = r .short; room = omega arith; code-is = code-of (length s) c (k .0) (k .1); no-open = no-open (h .table) (h .stops-at) }
     over-finish (walk.Loop a e B q d) h = close-ready h B q 2 (r .few) (r .short) (λ z. omega arith) start-room (r .work-room) (h .stops-at)
     over-finish (walk.Missing B q d) h = close-ready h B q 3 (r .few) (r .short) (λ z. omega arith) start-room (r .work-room) (h .stops-at)
-    over-finish (walk.End B q d) h = close-ready h B q 4 (r .few) (r .short) (λ z. omega arith) start-room (r .work-room) (h .stops-at)
 
     module _ {T₃ : List ℕ} {end : Walk} {count : ℕ} (a : Answer) (h : WalkEnds rule s v (A at p) O T₂ W W₁ end) (f : Finishes (length s) v end count T₂ T₃ a) where
       after-size : length T₃ ≡ length T
@@ -175,7 +173,6 @@ module _ {rule : ℕ → Rule} {s : List ℕ} {v A p : ℕ} {T W : List ℕ} (r 
           go (walk.Settled c) k e = absurd (no-open (k .table) (k .stops-at) (cell (length s) y) (cell-below v (length s) y w) o)
           go (walk.Loop a q B u d) k e = e
           go (walk.Missing B q d) k e = e
-          go (walk.End B q d) k e = e
 
       module _ (means : TableMeans rule s v (A at p) O T₂ (outcomeOf end) (namedOf end)) where
         holds-after : (y : Pair) → Reached rule s (A at p) y → Holds rule s T₃ y

@@ -12,7 +12,7 @@ use Rattle.grammar.specs.Rule.{Rule, call}
 use Rattle.schema.specs.Cells.{heldAt, stored, HasCell}
 use Rattle.schema.proofs.Cells.{view}
 use Rattle.schema.specs.Closed.{Closed}
-use Rattle.schema.specs.Derivation.{Pair, _at_, Result, success, failure, Stop, missing, end, gives, stops, calls, act, second, stopped, result, loop}
+use Rattle.schema.specs.Derivation.{Pair, _at_, Result, success, failure, Stop, missing, gives, stops, calls, act, second, stopped, result, loop}
 use Rattle.schema.specs.Examined.{leafReachOf}
 use Rattle.schema.specs.Table.{cell, cells, held, reach}
 use Rattle.schema.proofs.Closed.{calls-call}
@@ -180,7 +180,7 @@ module _ (rule : ℕ → Rule) (s : List ℕ) (v : ℕ) (closed : Closed v rule)
       abbrev opened-pairs : List Pair
       opened-pairs = map (pairOf (length s)) (cell (length s) (calledOf y) ∷ cell (length s) (topOf y) ∷ g .stack)
 
-      -- or it has no rule or no byte, and the walk ends.
+      -- or it has no rule, and the walk ends.
       stuck-trail : (w : PairWithin v (length s) x) → Trail W′ x (suc (y .depth)) opened-pairs
       stuck-trail w = trail-pairs rule s v x w (opened-through .inv .trail) opened-stacked
 
@@ -321,7 +321,6 @@ module _ (rule : ℕ → Rule) (s : List ℕ) (v : ℕ) (closed : Closed v rule)
             work-size = ap length (h .work-same) ∙ g .work-size;
           }
       steps-end {T′} {W′} (walk.Missing A p d) h = stuck-walk (h .0) work-room w missing (h .1) (walk.Missing A p d) refl refl refl (λ opens u. u) tt
-      steps-end {T′} {W′} (walk.End A p d) h = stuck-walk (h .0) work-room w end (h .1) (walk.End A p d) refl refl refl (λ opens u. u) tt
 
 -- ---- The walk's loop.
 
@@ -391,7 +390,7 @@ module _ {rule : ℕ → Rule} {s : List ℕ} {v A p : ℕ} {T₀ W₀ : List �
     work-size = refl;
   }
 
-  -- or has no rule or no byte.
+  -- or has no rule.
   pub stuck-first : (t : Stop) → act rule s (A at p) ≡ stops t → (z : Walk) → outcomeOf z ≡ stopped t → namedOf z ≡ A at p → depthOf z ≡ 0
       → ((opens : List Pair) → (ps : List Pair) × (opens ≡ (A at p) ∷ ps) → StopsAt z opens) → SettledCode (length s) z → WalkEnds rule s v (A at p) O T₀ W₀ W₀ z
   stuck-first t e z e₁ e₂ e₃ stop code =

@@ -50,21 +50,18 @@ abbrev pub depthOf : Walk → ℕ
 depthOf (walk.Settled c) = 0
 depthOf (walk.Loop A p B q d) = d
 depthOf (walk.Missing A p d) = d
-depthOf (walk.End A p d) = d
 
 -- The open pair where the walk stopped, the last one opened first.
 abbrev pub StopsAt : Walk → List Pair → Type 0
 StopsAt (walk.Settled c) opens = opens ≡ []
 StopsAt (walk.Loop A p B q d) opens = (ps : List Pair) × (opens ≡ (B at q) ∷ ps)
 StopsAt (walk.Missing A p d) opens = (ps : List Pair) × (opens ≡ (A at p) ∷ ps)
-StopsAt (walk.End A p d) opens = (ps : List Pair) × (opens ≡ (A at p) ∷ ps)
 
 -- The number of a result is a code.
 abbrev pub SettledCode : ℕ → Walk → Type 0
 SettledCode n (walk.Settled c) = (r : Result) × Settled n c r
 SettledCode n (walk.Loop A p B q d) = Unit {0}
 SettledCode n (walk.Missing A p d) = Unit {0}
-SettledCode n (walk.End A p d) = Unit {0}
 
 -- What a cell of a reached pair holds where the walk ends with the outcome o: its result and reach, or it is open and its outcome is o.
 abbrev pub HeldAt : (ℕ → Rule) → List ℕ → List ℕ → Outcome → Pair → Type 0

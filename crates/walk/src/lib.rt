@@ -78,7 +78,7 @@ fn settle_asked(n: usize, variable: u32, position: u32, leaf: Cell, table: &mut 
     Walk::Settled(leaf.0)
 }
 
-// Walks from an open pair, the only one, until it is settled, or a pair is met a second time, or one has no rule or no byte.
+// Walks from an open pair, the only one, until it is settled, or a pair is met a second time, or one has no rule.
 fn walk_from(
     rules: &Rules,
     input: &[u8],
@@ -106,10 +106,6 @@ fn walk_from(
         }
         Act::Missing => Walked {
             end: Walk::Missing(variable, position, 0),
-            count: 0,
-        },
-        Act::End => Walked {
-            end: Walk::End(variable, position, 0),
             count: 0,
         },
     }

@@ -104,7 +104,7 @@ module _ {rule : ℕ → Rule} {s : List ℕ} {v A p : ℕ} {T W out : List ℕ}
   outcome-is : outcomeOf (a .0) ≡ a .2 .outcome
   outcome-is = ap outcomeOf (a .2 .says)
 
-  -- Loop, missing and end: nothing is written.
+  -- Loop and missing: nothing is written.
   pub says-nothing : b ≡ false → SaysWriting rule v s (A at p) T T₁ W W₁ out out t 0
   unfolding linesBytes
   says-nothing f = (

@@ -28,7 +28,7 @@ pub data Visits (rule : ℕ → Rule) (input : List ℕ) : List Line → Pair �
       → Visits rule input middle (second C D p t) after → Stands after j (second C D p t) r
       → Visits rule input before (A at p) (after ++ lineOf (A at p) r i j ∷ [])
 
--- "It goes through the reached pairs from the question"; "For loop, missing and end it writes nothing".
+-- "It goes through the reached pairs from the question"; "For loop, missing .. it writes nothing".
 abbrev pub Lines : (ℕ → Rule) → List ℕ → Pair → Outcome → List Line → Type 0
 Lines rule input x (result r) ls = Visits rule input [] x ls
 Lines rule input x (stopped w) ls = ls ≡ []

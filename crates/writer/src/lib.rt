@@ -181,7 +181,6 @@ fn has_result(answer: Answer) -> bool
         Answer::Failure(_) => true,
         Answer::Loop(_, _, _) => false,
         Answer::Missing(_, _, _) => false,
-        Answer::End(_, _, _) => false,
         Answer::Refused(_, _) => false,
     }
 }

@@ -1,6 +1,6 @@
 -- `plan_of` plans what comes next at stage 0. Assumes nothing.
 use mathlib.Core.Path.{refl}
-use Rattle.schema.specs.Derivation.{missing, end, stopped}
+use Rattle.schema.specs.Derivation.{missing, stopped}
 use borrow.Author.Needs.{needs}
 use Rattle.backtrack.proofs.plan_of.Statement.{statement}
 use Rattle.backtrack.proofs.plan_of.Tie as tie
@@ -13,9 +13,6 @@ enum-told c = search needs
 
 enum-told-2 : tie.Need-enum-told-2
 enum-told-2 c = search needs
-
-enum-told-3 : tie.Need-enum-told-3
-enum-told-3 c = search needs
 
 enum-known-act-2 : tie.Need-enum-known-act-2
 enum-known-act-2 c = search needs
@@ -30,10 +27,7 @@ returns-3 : tie.Need-returns-3
 returns-3 c = λ X i stack. (stopped missing, rw (c .enum-told2 .given .1), refl)
 
 returns-4 : tie.Need-returns-4
-returns-4 c = λ X i stack. (stopped end, rw (c .enum-told3 .given .1), refl)
-
-returns-5 : tie.Need-returns-5
-returns-5 c = λ X i stack. rw (c .before .act2 .given .1)
+returns-4 c = λ X i stack. rw (c .before .act2 .given .1)
 
 pub plan-of-spec : {M : Type 1} → statement M
 plan-of-spec =
@@ -42,10 +36,8 @@ plan-of-spec =
     enum-known-act
     enum-told
     enum-told-2
-    enum-told-3
     enum-known-act-2
     returns
     returns-2
     returns-3
-    returns-4
-    returns-5)
+    returns-4)

@@ -25,9 +25,6 @@ result-by-leaf-requires-2 c κs = search needs
 enum-told-2 : tie.Need-enum-told-2
 enum-told-2 c = search needs
 
-enum-told-3 : tie.Need-enum-told-3
-enum-told-3 c = search needs
-
 enum-known-b : tie.Need-enum-known-b
 enum-known-b c = search needs
 
@@ -54,12 +51,6 @@ returns-3 c =
 
 returns-4 : tie.Need-returns-4
 returns-4 c =
-    let a = c .before .before .before .before .before .args in
-    by-act (earlierLine (a .certificate .now) (a .n)) (a .line .start) (a .line .first) (a .line .second)
-    (sym (ap told (c .enum-told3 .given .1)) ∙ c .before .before .act-at .ensures) refl
-
-returns-5 : tie.Need-returns-5
-returns-5 c =
     let a = c .before .before .before .before .before .before .before .args in
     by-act (earlierLine (a .certificate .now) (a .n)) (a .line .start) (a .line .first) (a .line .second)
     (sym (ap told (c .before .before .b .given .1)) ∙ c .before .before .before .before .act-at .ensures) (c .result-by-call .ensures)
@@ -74,11 +65,9 @@ result-by-spec =
     enum-told
     result-by-leaf-requires-2
     enum-told-2
-    enum-told-3
     enum-known-b
     result-by-call-requires
     returns
     returns-2
     returns-3
-    returns-4
-    returns-5)
+    returns-4)

@@ -19,9 +19,6 @@ enum-told-4 c = search needs
 enum-told-5 : tie.Need-enum-told-5
 enum-told-5 c = search needs
 
-enum-told-6 : tie.Need-enum-told-6
-enum-told-6 c = search needs
-
 enum-known-judgement : tie.Need-enum-known-judgement
 enum-known-judgement c = search needs
 
@@ -44,10 +41,7 @@ returns-5 : tie.Need-returns-5
 returns-5 c = rw (c .enum-told5 .given .1) refl
 
 returns-6 : tie.Need-returns-6
-returns-6 c = rw (c .enum-told6 .given .1) refl
-
-returns-7 : tie.Need-returns-7
-returns-7 c = rw (c .before .judgement .given .1) refl
+returns-6 c = rw (c .before .judgement .given .1) refl
 
 pub code-spec : {M : Type 1} → statement M
 code-spec =
@@ -58,7 +52,6 @@ code-spec =
     enum-told-3
     enum-told-4
     enum-told-5
-    enum-told-6
     enum-known-judgement
     add-result
     returns
@@ -66,5 +59,4 @@ code-spec =
     returns-3
     returns-4
     returns-5
-    returns-6
-    returns-7)
+    returns-6)

@@ -34,15 +34,6 @@ close-requires-2 c κs =
     let a = st .args in
     subst (FinishReady (a .n) (a .variables) (a .table .now) (a .work .now)) (c .before .before .end3 .given .1) (st .pre)
 
-enum-known-end-4 : tie.Need-enum-known-end-4
-enum-known-end-4 c = search needs
-
-close-requires-3 : tie.Need-close-requires-3
-close-requires-3 c κs =
-    let st = c .before .before .before .before .before .before in
-    let a = st .args in
-    subst (FinishReady (a .n) (a .variables) (a .table .now) (a .work .now)) (c .before .before .end4 .given .1) (st .pre)
-
 returns : tie.Need-returns
 returns c =
     let st = c .before .before .before .before .before .before in
@@ -66,14 +57,6 @@ returns-3 c =
     let a = c .before .before .before .before .before .before .before .before .before .args in
     finishes (a .n) (a .variables) _ _ _ (walk.Missing (c .before .before .before .before .before .end3 .given .0 .0) (c .before .before .before .before .before .end3 .given .0 .1 .0) (c .before .before .before .before .before .end3 .given .0 .1 .1 .0)) (c .before .before .before .before .before .end3 .given .1) (c .before .before .close2 .ensures) refl
 
-same-length-3 : tie.Need-same-length-3
-same-length-3 c = search needs
-
-returns-4 : tie.Need-returns-4
-returns-4 c =
-    let a = c .before .before .before .before .before .before .before .before .before .args in
-    finishes (a .n) (a .variables) _ _ _ (walk.End (c .before .before .before .before .before .end4 .given .0 .0) (c .before .before .before .before .before .end4 .given .0 .1 .0) (c .before .before .before .before .before .end4 .given .0 .1 .1 .0)) (c .before .before .before .before .before .end4 .given .1) (c .before .before .close3 .ensures) refl
-
 pub finish-spec : {M : Type 1} → statement M
 finish-spec =
     tie.close
@@ -84,12 +67,8 @@ finish-spec =
     close-requires
     enum-known-end-3
     close-requires-2
-    enum-known-end-4
-    close-requires-3
     returns
     same-length
     returns-2
     same-length-2
-    returns-3
-    same-length-3
-    returns-4)
+    returns-3)

@@ -1,8 +1,8 @@
-use mathlib.Core.Path.{ap}
-use mathlib.Core.Bool.{Bool, not, _&&_, _||_}
-use Prim.Native.Nat.{_+_}
+use mathlib.Core.Bool.{Bool, _&&_, _||_}
+use mathlib.Core.Path.{ap₂}
 use lib.Dec.{ltb}
 use borrow.Author.Needs.{needs}
+use Rattle.passes.proofs.Looking.{four-below-success}
 use Rattle.passes.proofs.out_of_range.Statement.{statement}
 use Rattle.passes.proofs.out_of_range.Tie as tie
 
@@ -18,8 +18,7 @@ is-result-requires c κs = search needs
 returns : tie.Need-returns
 returns c =
     let a = c .before .before .before .before .before .args in
-    ap (λ (b : Bool). (ltb (5 + a .n) (a .cell .0) || (not (ltb (a .cell .0) 5) && ltb (a .cell .0) (5 + a .position))) || (b && ltb (a .cell .1) (a .position)))
-    (c .before .is-result .ensures)
+    ap₂ (λ (b d : Bool). b || (d && ltb (a .cell .1) (a .position))) (four-below-success (a .n) (a .position) (a .cell .0)) (c .before .is-result .ensures)
 
 pub out-of-range-spec : {M : Type 1} → statement M
 out-of-range-spec = tie.close (tie.spec add-end-out add-end-out-2 is-result-requires returns)

@@ -61,20 +61,20 @@ returns-5 : tie.Need-returns-5
 unfolding actOf ruleFor
 returns-5 c =
     let a = c .before .before .before .before .before .before .before .args in
-    rw (word-of (now (a .rules)) (a .variable) (omega arith), c .if5 .taken)
-
-returns-6 : tie.Need-returns-6
-unfolding actOf ruleFor
-returns-6 c =
-    let a = c .before .before .before .before .before .before .before .args in
     simp (
       word-of (now (a .rules)) (a .variable) (omega arith),
       ne-eqb _ _ (c .before .before .before .before .if1 .left),
       ne-eqb _ _ (c .before .before .before .if2 .left),
       ne-eqb _ _ (c .before .before .if3 .left),
       ne-eqb _ _ (c .before .if4 .left),
-      ne-eqb _ _ (c .if5 .left),
+      ne-eqb _ _ (c .if5 .taken),
     )
+
+returns-6 : tie.Need-returns-6
+unfolding actOf ruleFor
+returns-6 c =
+    let a = c .before .before .before .before .before .before .before .args in
+    rw (word-of (now (a .rules)) (a .variable) (omega arith), c .if5 .left)
 
 pub act-at-spec : {M : Type 1} → statement M
 act-at-spec =

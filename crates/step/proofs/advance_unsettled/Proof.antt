@@ -86,18 +86,6 @@ open-called-requires-2 c κs =
 add-t35 : tie.Need-add-t35
 add-t35 c = search needs
 
-enum-told-3 : tie.Need-enum-told-3
-enum-told-3 c = search needs
-
-open-called-requires-3 : tie.Need-open-called-requires-3
-open-called-requires-3 c κs =
-    let r = c .before .before .before .before .before .before .before .before .pre .0 in
-    let b = step-bounds r in
-    (b .called-in .variable .0, b .called-high, r .walkable .short, b .called-in .position, b .called-cell, b .high, b .position-small, b .deep)
-
-add-t42 : tie.Need-add-t42
-add-t42 c = search needs
-
 same-length : tie.Need-same-length
 same-length c = search needs
 
@@ -165,17 +153,6 @@ returns-4 c =
     let a = c .before .before .before .before .before .before .before .before .before .before .before .before .before .before .args in
     (opens-called (ruleIn (a .rules .now)) (a .input .now) (a .x) (c .before .before .before .before .before .before .before .before .before .before .before .before .before .before .pre .1) (c .before .before .before .before .before .open-called2 .ensures .0) (c .before .before .before .before .before .open-called2 .ensures .1), record { acts = sym (c .before .before .before .before .before .before .before .before .before .before .act-at .ensures) ∙ ap told (c .before .before .before .before .before .before .before .before .enum-told2 .given .1); pair-is = refl; depth-is = refl })
 
-same-length-9 : tie.Need-same-length-9
-same-length-9 c = search needs
-
-same-length-10 : tie.Need-same-length-10
-same-length-10 c = search needs
-
-returns-5 : tie.Need-returns-5
-returns-5 c =
-    let a = c .before .before .before .before .before .before .before .before .before .before .before .before .before .before .args in
-    (opens-called (ruleIn (a .rules .now)) (a .input .now) (a .x) (c .before .before .before .before .before .before .before .before .before .before .before .before .before .before .pre .1) (c .before .before .before .before .before .open-called3 .ensures .0) (c .before .before .before .before .before .open-called3 .ensures .1), record { acts = sym (c .before .before .before .before .before .before .before .before .before .before .act-at .ensures) ∙ ap told (c .before .before .before .before .before .before .before .before .enum-told3 .given .1); pair-is = refl; depth-is = refl })
-
 pub advance-unsettled-spec : {M : Type 1} → statement M
 advance-unsettled-spec =
     tie.close
@@ -194,9 +171,6 @@ advance-unsettled-spec =
     enum-told-2
     open-called-requires-2
     add-t35
-    enum-told-3
-    open-called-requires-3
-    add-t42
     same-length
     same-length-2
     returns
@@ -208,7 +182,4 @@ advance-unsettled-spec =
     returns-3
     same-length-7
     same-length-8
-    returns-4
-    same-length-9
-    same-length-10
-    returns-5)
+    returns-4)

@@ -1,7 +1,7 @@
 use mathlib.Core.Path.{refl, sym, _∙_}
 use native.Mathlib.Omega.{arith}
 use borrow.Author.Needs.{needs}
-use borrow.Author.Tests.{lt-ltb, le-ltb, not-true, not-false}
+use borrow.Author.Tests.{lt-ltb, le-ltb}
 use Rattle.verdict.proofs.Judged.{refused-sheet, few, refused-then, admitted-then}
 use Rattle.verdict.proofs.admit_verdict.Statement.{statement}
 use Rattle.verdict.proofs.admit_verdict.Tie as tie
@@ -19,42 +19,32 @@ returns : tie.Need-returns
 returns c =
     let a = c .before .before .before .before .before .before .before .before .args in
     let p = c .before .before .before .before .read-sheet .ensures in
-    refused-then p (a .input .now) (a .table) (a .work) (c .before .before .read2 .given .1) (lt-ltb _ _ (c .if1 .taken)) refl refl (λ g. refl)
+    refused-then p (a .input .now) (a .table) (a .work) (c .before .before .read2 .given .1) (lt-ltb _ _ (c .if1 .taken)) refl (λ g. refl)
 
-closed-by-requires : tie.Need-closed-by-requires
-closed-by-requires c κs = search needs
+too-small-requires : tie.Need-too-small-requires
+too-small-requires c κs =
+    let a = c .before .before .before .before .before .before .before .before .args in
+    let p = c .before .before .before .before .read-sheet .ensures in
+    (few p (a .input .now) (a .table) (a .work) (c .before .before .read2 .given .1), omega arith)
 
 returns-2 : tie.Need-returns-2
 returns-2 c =
     let a = c .before .before .before .before .before .before .before .before .before .before .args in
     let p = c .before .before .before .before .before .before .read-sheet .ensures in
     refused-then p (a .input .now) (a .table) (a .work) (c .before .before .before .before .read2 .given .1) (le-ltb _ _ (c .before .before .if1 .left))
-    (sym (not-true _ (c .if2 .taken)) ∙ c .before .closed-by .ensures) refl (λ g. refl)
-
-too-small-requires : tie.Need-too-small-requires
-too-small-requires c κs =
-    let a = c .before .before .before .before .before .before .before .before .before .before .args in
-    let p = c .before .before .before .before .before .before .read-sheet .ensures in
-    (few p (a .input .now) (a .table) (a .work) (c .before .before .before .before .read2 .given .1), omega arith)
+    (sym (c .if2 .taken) ∙ c .before .too-small .ensures) (λ g. refl)
 
 returns-3 : tie.Need-returns-3
 returns-3 c =
-    let a = c .before .before .before .before .before .before .before .before .before .before .before .before .args in
-    let p = c .before .before .before .before .before .before .before .before .read-sheet .ensures in
-    refused-then p (a .input .now) (a .table) (a .work) (c .before .before .before .before .before .before .read2 .given .1) (le-ltb _ _ (c .before .before .before .before .if1 .left))
-    (sym (not-false _ (c .before .before .if2 .left)) ∙ c .before .before .before .closed-by .ensures) (sym (c .if3 .taken) ∙ c .before .too-small .ensures) (λ g. refl)
-
-returns-4 : tie.Need-returns-4
-returns-4 c =
     let a = c .before .before .before .before .before .before .before .args in
     refused-sheet (c .before .before .before .read-sheet .ensures) (a .input .now) (a .table) (a .work) (c .before .read .given .1)
 
-returns-5 : tie.Need-returns-5
-returns-5 c =
-    let a = c .before .before .before .before .before .before .before .before .before .before .before .before .args in
-    let p = c .before .before .before .before .before .before .before .before .read-sheet .ensures in
-    admitted-then p (a .input .now) (a .table) (a .work) (c .before .before .before .before .before .before .read2 .given .1) (le-ltb _ _ (c .before .before .before .before .if1 .left))
-    (sym (not-false _ (c .before .before .if2 .left)) ∙ c .before .before .before .closed-by .ensures) (sym (c .if3 .left) ∙ c .before .too-small .ensures) (λ g. refl)
+returns-4 : tie.Need-returns-4
+returns-4 c =
+    let a = c .before .before .before .before .before .before .before .before .before .before .args in
+    let p = c .before .before .before .before .before .before .read-sheet .ensures in
+    admitted-then p (a .input .now) (a .table) (a .work) (c .before .before .before .before .read2 .given .1) (le-ltb _ _ (c .before .before .if1 .left))
+    (sym (c .if2 .left) ∙ c .before .too-small .ensures) (λ g. refl)
 
 pub admit-verdict-spec : {M : Type 1} → statement M
 admit-verdict-spec =
@@ -64,9 +54,7 @@ admit-verdict-spec =
     enum-known-read
     enum-known-read-2
     returns
-    closed-by-requires
-    returns-2
     too-small-requires
+    returns-2
     returns-3
-    returns-4
-    returns-5)
+    returns-4)

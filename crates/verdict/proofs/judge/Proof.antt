@@ -25,9 +25,6 @@ enum-known-answer-4 c = search needs
 enum-known-answer-5 : tie.Need-enum-known-answer-5
 enum-known-answer-5 c = search needs
 
-enum-known-answer-6 : tie.Need-enum-known-answer-6
-enum-known-answer-6 c = search needs
-
 returns-2 : tie.Need-returns-2
 returns-2 c = rw (c .before .before .answer .given .1, ne-eqb _ _ (c .if1 .left)) refl
 
@@ -43,9 +40,6 @@ returns-5 c = rw (c .before .answer4 .given .1) refl
 returns-6 : tie.Need-returns-6
 returns-6 c = rw (c .before .answer5 .given .1) refl
 
-returns-7 : tie.Need-returns-7
-returns-7 c = rw (c .before .answer6 .given .1) refl
-
 pub judge-spec : {M : Type 1} → statement M
 judge-spec =
     tie.close
@@ -57,10 +51,8 @@ judge-spec =
     enum-known-answer-3
     enum-known-answer-4
     enum-known-answer-5
-    enum-known-answer-6
     returns-2
     returns-3
     returns-4
     returns-5
-    returns-6
-    returns-7)
+    returns-6)

@@ -21,9 +21,6 @@ enum-known-judgement-5 c = search needs
 enum-known-judgement-6 : tie.Need-enum-known-judgement-6
 enum-known-judgement-6 c = search needs
 
-enum-known-judgement-7 : tie.Need-enum-known-judgement-7
-enum-known-judgement-7 c = search needs
-
 returns : tie.Need-returns
 returns c = rw (c .before .judgement .given .1) refl
 
@@ -42,9 +39,6 @@ returns-5 c = rw (c .before .judgement5 .given .1) refl
 returns-6 : tie.Need-returns-6
 returns-6 c = rw (c .before .judgement6 .given .1) refl
 
-returns-7 : tie.Need-returns-7
-returns-7 c = rw (c .before .judgement7 .given .1) refl
-
 pub numbers-of-spec : {M : Type 1} → statement M
 numbers-of-spec =
     tie.close
@@ -55,11 +49,9 @@ numbers-of-spec =
     enum-known-judgement-4
     enum-known-judgement-5
     enum-known-judgement-6
-    enum-known-judgement-7
     returns
     returns-2
     returns-3
     returns-4
     returns-5
-    returns-6
-    returns-7)
+    returns-6)

@@ -3,7 +3,7 @@ use native.Mathlib.Omega.{arith}
 use lib.ListN.{length}
 use Rattle.grammar.specs.Words.{ruleIn}
 use Rattle.rules.specs.Act.{told}
-use Rattle.schema.specs.Derivation.{success, failure, missing, end}
+use Rattle.schema.specs.Derivation.{success, failure, missing}
 use Rattle.schema.proofs.Examined.{success-reach}
 use Rattle.step.specs.Codes.{Settled}
 use Rattle.step.specs.declared.Walk.the-variants as walk
@@ -59,9 +59,6 @@ settle-asked-requires-2 c κs = asked-bounds (c .before .before .before .before 
 enum-told-2 : tie.Need-enum-told-2
 enum-told-2 c = search needs
 
-enum-told-3 : tie.Need-enum-told-3
-enum-told-3 c = search needs
-
 same-length : tie.Need-same-length
 same-length c = search needs
 
@@ -114,11 +111,6 @@ returns-4 c =
     let a = c .before .before .before .before .before .before .args in
     (stuck-first (c .before .before .before .before .before .before .pre) missing (sym (c .before .before .act-at .ensures) ∙ ap told (c .enum-told2 .given .1)) (walk.Missing (a .variable) (a .position) 0) refl refl refl (λ opens u. u) tt, omega arith)
 
-returns-5 : tie.Need-returns-5
-returns-5 c =
-    let a = c .before .before .before .before .before .before .args in
-    (stuck-first (c .before .before .before .before .before .before .pre) end (sym (c .before .before .act-at .ensures) ∙ ap told (c .enum-told3 .given .1)) (walk.End (a .variable) (a .position) 0) refl refl refl (λ opens u. u) tt, omega arith)
-
 pub walk-from-spec : {M : Type 1} → statement M
 walk-from-spec =
     tie.close
@@ -134,7 +126,6 @@ walk-from-spec =
     failure-requires
     settle-asked-requires-2
     enum-told-2
-    enum-told-3
     same-length
     same-length-2
     returns
@@ -142,5 +133,4 @@ walk-from-spec =
     returns-2
     same-length-4
     returns-3
-    returns-4
-    returns-5)
+    returns-4)
