@@ -29,8 +29,9 @@ uint32_t entryreader_sheet(
     uint32_t (*words)[256]);
 
 /*
- * The verdict on an entry, over 1,024 cells of the call's own. Returns 0 recognised, 1 failure, 2 loop, 3 missing, 4 end, 5 partial; or 100 plus the
- * number of a refusal (1 to 7, and 10 where V times (n + 1) is over 1,024).
+ * The verdict on an entry, over 1,024 cells of the call's own. Returns 0 recognised, 1 failure, 2 loop, 3 missing, 5 partial; or 100 plus the number of
+ * a refusal (1 to 6, and 10 where V times (n + 1) is over 1,024). Since order 11 there is neither 4 nor refusal 7: an entry needs no closing mark, and a
+ * rule that asks for a byte at its end fails.
  */
 uint32_t entryreader_verdict(
     const uint8_t *sheet, size_t sheet_length,
@@ -39,7 +40,7 @@ uint32_t entryreader_verdict(
 /*
  * The verdict on an entry, over a lent table of twice V times (n + 1) numbers or more and a lent work slice of V times (n + 1) or more. Always returns
  * 0, with four numbers in the answer: the code of the verdict, the named variable or 0, the end or the named position or 0, the count of decided cells;
- * or for a refusal (1 to 7, 10) 9, its number, the line at fault or 0, and 0, with table and work slice as they were.
+ * or for a refusal (1 to 6, 10) 9, its number, the line at fault or 0, and 0, with table and work slice as they were.
  */
 uint32_t entryreader_judge(
     const uint8_t *sheet, size_t sheet_length,
@@ -50,8 +51,8 @@ uint32_t entryreader_judge(
 
 /*
  * The opening of an entry that already loops: the least m such that the entry's first m bytes loop too, asked about the start variable at 0. Returns 0,
- * with 1 and m in the answer where the verdict is loop, and 0 and 0 where it is any other; or a refusal (1 to 7, 10). Table and work slice are as long as
- * for entryreader_judge, and afterwards the table is the one that it leaves.
+ * with 1 and m in the answer where the verdict is loop, and 0 and 0 where it is any other, though an opening may loop; or a refusal (1 to 6, 10). Table
+ * and work slice are as long as for entryreader_judge, and afterwards the table is the one that it leaves.
  */
 uint32_t entryreader_opening(
     const uint8_t *sheet, size_t sheet_length,
@@ -64,9 +65,9 @@ uint32_t entryreader_opening(
  * The outcome of a variable (1 to V) at a position (0 to n), over a lent table of twice V times (n + 1) numbers or more and a lent work slice of V
  * times (n + 1) or more. Returns 0, with the outcome's code, the named variable and position (or 0 and 0) and the count of decided cells in the answer;
  * or a refusal (1 to 6, 8 to 10). A cell of the table is two numbers side by side, outcome then reach; that of variable A at p is number (A - 1) times
- * (n + 1) plus p. Its outcome is 0 if the question does not reach it, 1 for failure, 2 loop, 3 missing, 4 end, 5 + q for success ending at q. Its reach
- * is how far a success or a failure looked: p for a rule of kind 0 or 1, p + 1 for one of kind 2 or 3, the greater of the two called pairs' for one of
- * kind 4; any other is 0.
+ * (n + 1) plus p. Its outcome is 0 if the question does not reach it, 1 for failure, 2 loop, 3 missing, 5 + q for success ending at q. Its reach is how
+ * far a success or a failure looked: p for a rule of kind 0 or 1, p + 1 for one of kind 2 or 3, the greater of the two called pairs' for one of kind 4;
+ * any other is 0. A reach of n + 1 says that the input's end was looked at: with bytes appended the answer may then be another.
  */
 uint32_t entryreader_question(
     const uint8_t *sheet, size_t sheet_length,
@@ -80,8 +81,8 @@ uint32_t entryreader_question(
  * The question about an input of which the byte at c was corrected, over a kept table of the old input: a blank one, one that a question left, or one
  * that this call or entryreader_further left over a kept one. Retained are its cells at positions above c, and each success or failure whose reach is
  * at most c. Returns as entryreader_question does, with the count of newly decided cells. The refusals are those of the question, about input alone; then
- * 18 (c is not below n), 21 (old and input differ in length, or at a position other than c) and 19 (a retained cell with an outcome over 5 + n, a success
- * that ends left of its place, or a success or a failure whose reach is below its place). Whether the table is of old and this sheet is not tested.
+ * 18 (c is not below n), 21 (old and input differ in length, or at a position other than c) and 19 (a retained cell with outcome 4 or one over 5 + n, a
+ * success that ends left of its place, or a success or a failure whose reach is below its place). Whether the table is of old and this sheet is not tested.
  *
  * Since order 10 old is handed over too: a program that was compiled without it has to be changed.
  */
@@ -127,7 +128,7 @@ uint32_t entryreader_restore(
 
 /*
  * The question, with its reading at the front of out, which has 49 times V times (n + 1) bytes or more. Returns 0, with the question's four numbers and
- * the count of lines, 49 bytes each, in the answer; or a refusal (1 to 6, 8 to 11). Loop, missing and end have no lines.
+ * the count of lines, 49 bytes each, in the answer; or a refusal (1 to 6, 8 to 11). Loop and missing have no lines.
  */
 uint32_t entryreader_write(
     const uint8_t *sheet, size_t sheet_length,

@@ -40,8 +40,6 @@ pub enum Code {
     Loop = 2,
     /// A variable without a rule is asked for.
     Missing = 3,
-    /// A byte is asked for at the entry's end.
-    End = 4,
     /// Success before the entry's end.
     Partial = 5,
 }
@@ -50,18 +48,17 @@ impl Code {
     /// In the order of their numbers.
     ///
     /// ```
-    /// assert_eq!(entryreader::Code::ALL.len(), 6);
+    /// assert_eq!(entryreader::Code::ALL.len(), 5);
     /// ```
-    pub const ALL: [Code; 6] = [
+    pub const ALL: [Code; 5] = [
         Code::Recognised,
         Code::Failure,
         Code::Loop,
         Code::Missing,
-        Code::End,
         Code::Partial,
     ];
 
-    /// Its number, from 0 to 5.
+    /// Its number, from 0 to 3, or 5.
     ///
     /// ```
     /// assert_eq!(entryreader::Code::Loop.number(), 2);
@@ -83,7 +80,6 @@ impl fmt::Display for Code {
             Code::Failure => "failure",
             Code::Loop => "loop",
             Code::Missing => "missing",
-            Code::End => "end",
             Code::Partial => "partial",
         })
     }
@@ -134,13 +130,6 @@ pub enum Verdict {
         /// Decided cells.
         cells: u32,
     },
-    /// A byte is asked for at the entry's end.
-    End {
-        /// The pair that asks for it.
-        named: Pair,
-        /// Decided cells.
-        cells: u32,
-    },
 }
 
 impl Verdict {
@@ -155,7 +144,6 @@ impl Verdict {
             Some(Code::Failure) => Verdict::Failure { cells },
             Some(Code::Loop) => Verdict::Loop { named, cells },
             Some(Code::Missing) => Verdict::Missing { named, cells },
-            Some(Code::End) => Verdict::End { named, cells },
             Some(Code::Partial) => Verdict::Partial { end: second, cells },
             None => return Err(Error::new(first, second)),
         })
@@ -185,7 +173,6 @@ impl Verdict {
             Verdict::Failure { .. } => Code::Failure,
             Verdict::Loop { .. } => Code::Loop,
             Verdict::Missing { .. } => Code::Missing,
-            Verdict::End { .. } => Code::End,
         }
     }
 }
@@ -227,13 +214,6 @@ pub enum Answer {
         /// Decided cells.
         cells: u32,
     },
-    /// A byte is asked for at the entry's end.
-    End {
-        /// The pair that asks for it.
-        named: Pair,
-        /// Decided cells.
-        cells: u32,
-    },
 }
 
 impl Answer {
@@ -245,15 +225,14 @@ impl Answer {
         let [outcome, variable, position, cells] = numbers;
         let named = Pair { variable, position };
         Ok(match outcome {
-            0 => unreachable!("the cell of an answered question is not blank"),
             1 => Answer::Failure { cells },
             2 => Answer::Loop { named, cells },
             3 => Answer::Missing { named, cells },
-            4 => Answer::End { named, cells },
-            _ => Answer::Success {
+            5.. => Answer::Success {
                 end: outcome - 5,
                 cells,
             },
+            _ => unreachable!("no answered question has outcome {outcome}"),
         })
     }
 }

@@ -140,7 +140,7 @@ unsafe extern "C" {
     ) -> u32;
 }
 
-/// 0 to 5, or 100 plus the number of a refusal.
+/// 0 to 3 or 5, or 100 plus the number of a refusal.
 pub fn verdict(sheet: &[u8], entry: &[u8]) -> u32 {
     // SAFETY: the call has no precondition, and reads the two slices only.
     unsafe { entryreader_verdict(sheet.as_ptr(), sheet.len(), entry.as_ptr(), entry.len()) }

@@ -34,7 +34,7 @@ pub struct Header {
     pub variables: u32,
     /// The start variable, 1 to V.
     pub start: u32,
-    /// The endmarker.
+    /// The endmarker, a byte that nothing uses.
     pub endmarker: u8,
 }
 
@@ -69,11 +69,12 @@ pub fn sheet(sheet: &[u8], words: &mut [u32; 256]) -> Result<Header, Error> {
 /// The kind of the verdict on an entry. The call has 1,024 cells of its own: where V times (n + 1) is more, it is refused (10).
 ///
 /// ```
-/// use entryreader::{Code, Refusal, lent::verdict};
+/// use entryreader::{Code, lent::verdict};
 ///
 /// let sheet = b"    1    1   46    0    0\n    1    2   46    0    0\n";
 /// assert_eq!(verdict(sheet, b".")?, Code::Recognised);
-/// assert_eq!(verdict(sheet, b"1").unwrap_err().refusal(), Refusal::Endmarker);
+/// assert_eq!(verdict(sheet, b"")?, Code::Failure);
+/// assert_eq!(verdict(sheet, &[46; 1_024]).unwrap_err().number(), 10);
 /// # Ok::<(), entryreader::Error>(())
 /// ```
 pub fn verdict(sheet: &[u8], entry: &[u8]) -> Result<Code, Error> {
@@ -104,7 +105,8 @@ pub fn judge(
 }
 
 /// The opening of an entry that already loops: where the verdict is loop, the least number of the entry's first bytes on which the start variable at 0
-/// loops too; none for any other verdict. Table and work slice are lent as to [`judge`], which refuses the same and leaves the same table.
+/// loops too; a longer opening need not, so that one after the other is asked, up to n of them. None for any other verdict, though an opening may loop.
+/// Table and work slice are lent as to [`judge`], which refuses the same and leaves the same table.
 ///
 /// ```
 /// use entryreader::lent::opening;
@@ -140,9 +142,12 @@ pub fn opening(
 /// (n + 1) or more.
 ///
 /// A cell is two numbers side by side, outcome then reach; that of variable A at p is number (A - 1) times (n + 1) plus p. Afterwards its outcome is 0
-/// if its pair is not reached, 1 for failure, 2 for loop, 3 for missing, 4 for end, 5 + q for success ending at q. Its reach is how far a success or a
-/// failure looked: p for a rule of kind 0 or 1, p + 1 for one that asks for a byte or a class, and the greater of the two called pairs' for one that
-/// calls; any other is 0. Later numbers of both slices are unchanged.
+/// if its pair is not reached, 1 for failure, 2 for loop, 3 for missing, 5 + q for success ending at q. Its reach is how far a success or a failure
+/// looked: p for a rule of kind 0 or 1, p + 1 for one that asks for a byte or a class, and the greater of the two called pairs' for one that calls; any
+/// other is 0. Later numbers of both slices are unchanged.
+///
+/// A reach of n + 1 says that the entry's end was looked at. A success or a failure whose reach is at most n is the same with any bytes appended, and so
+/// are a loop and a missing rule, with their named pair, where the reach of every cell that the question left is at most n.
 ///
 /// ```
 /// use entryreader::{Answer, lent::question};
@@ -235,9 +240,9 @@ pub fn correct(
 /// pair's outcome and reach: the table is kept still. Two further questions get the same answers but for `cells`, and leave the same table, in either
 /// order.
 ///
-/// It is refused (19) where any of the first V times (n + 1) cells has an outcome over 5 + n, a success that ends left of its place, or a success or a
-/// failure whose reach is below its place. From any other table that is not kept nothing is promised but that the call ends within its slices. Later
-/// numbers of both slices are unchanged.
+/// It is refused (19) where any of the first V times (n + 1) cells has outcome 4 or one over 5 + n, a success that ends left of its place, or a success
+/// or a failure whose reach is below its place. From any other table that is not kept nothing is promised but that the call ends within its slices.
+/// Later numbers of both slices are unchanged.
 ///
 /// ```
 /// use entryreader::{Answer, lent::{further, question}};
@@ -401,7 +406,7 @@ pub fn check(
 /// The rule sheet of a text of the societies' shorthand, written at the front of `out`: its length. What stands behind it is unchanged.
 ///
 /// A line is a capital, `=`, rows parted by `/`, and a line feed; a row is capitals, bytes between single quotes, `%`, and rows in round or
-/// square brackets. The letters are variables 1, 2 and so on by first appearance; the sheet's start is 1 and its endmarker the full stop.
+/// square brackets. The letters are variables 1, 2 and so on by first appearance; the sheet's start is 1 and its endmarker, which nothing uses, the full stop.
 ///
 /// ```
 /// use entryreader::lent::shorthand;

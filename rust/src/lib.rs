@@ -1,4 +1,4 @@
-//! What a society's rule sheet makes of an entry of a parish register: recognised, partial, failure, loop, a missing rule, or the entry's end.
+//! What a society's rule sheet makes of an entry of a parish register: recognised, partial, failure, loop, or a missing rule.
 //!
 //! The calls underneath are proved: each has a contract that says for any bytes at all what it answers, and the Rattle toolchain proves the code
 //! against it (`crates/entryreader` of the repository). This package hands them to Rust. It serves x86-64 Linux.
@@ -17,9 +17,9 @@
 //! # Ok::<(), entryreader::Error>(())
 //! ```
 //!
-//! A sheet has at most 256 variables, an entry at most 4,096 bytes, in ISO 8859-1 where a rule asks for a class of letters. An entry ends with the
-//! sheet's endmarker, which stands nowhere else in it; only [`Reader::verdict`] and [`Reader::opening`] ask for that. Everything else is refused:
-//! [`Error`] says why, and at which line of the sheet.
+//! A sheet has at most 256 variables, an entry at most 4,096 bytes, in ISO 8859-1 where a rule asks for a class of letters. An entry needs no closing
+//! mark, and may be empty: where a rule asks for a byte and the entry has ended, it fails. Everything else is refused: [`Error`] says why, and at which
+//! line of the sheet.
 #![warn(missing_docs)]
 #![warn(
     clippy::cast_possible_truncation,

@@ -94,11 +94,12 @@ impl Reader {
     /// The verdict on an entry.
     ///
     /// ```
-    /// use entryreader::{Reader, Refusal, Verdict};
+    /// use entryreader::{Reader, Verdict};
     ///
     /// let mut reader = Reader::new(b"    1    1   46    0    0\n    1    2   46    0    0\n")?;
     /// assert_eq!(reader.verdict(b".")?, Verdict::Recognised { cells: 1 });
-    /// assert_eq!(reader.verdict(b"").unwrap_err().refusal(), Refusal::Endmarker);
+    /// // It asks for a byte where the entry has ended.
+    /// assert_eq!(reader.verdict(b"")?, Verdict::Failure { cells: 1 });
     /// # Ok::<(), entryreader::Error>(())
     /// ```
     pub fn verdict(&mut self, entry: &[u8]) -> Result<Verdict, Error> {
@@ -109,8 +110,8 @@ impl Reader {
     }
 
     /// The opening of an entry that already loops: where the [`verdict`](Reader::verdict) is loop, the least number of the entry's first bytes on which
-    /// the start variable at 0 loops too; none for any other verdict. The openings need not end with the endmarker. Refusals, and the entry and the
-    /// table that are kept, are the verdict's.
+    /// the start variable at 0 loops too; a longer opening need not, so that one after the other is asked, up to n of them. None for any other verdict,
+    /// though an opening may loop. Refusals, and the entry and the table that are kept, are the verdict's.
     ///
     /// ```
     /// use entryreader::Reader;
@@ -119,7 +120,7 @@ impl Reader {
     /// let mut reader = Reader::from_shorthand(b"S='6'S/'-'L\nL=L\n")?;
     /// assert_eq!(reader.opening(b"66-6-666.")?, Some(3));
     /// assert_eq!(reader.opening(b"666.")?, None);
-    /// assert_eq!(reader.opening(b"66-").unwrap_err().number(), 7);
+    /// assert_eq!(reader.opening(b"66-")?, Some(3));
     /// # Ok::<(), entryreader::Error>(())
     /// ```
     pub fn opening(&mut self, entry: &[u8]) -> Result<Option<usize>, Error> {
@@ -129,7 +130,7 @@ impl Reader {
         Ok(least)
     }
 
-    /// The answer about a variable at a position of an entry, which need not end with the endmarker.
+    /// The answer about a variable at a position of an entry.
     ///
     /// ```
     /// use entryreader::{Answer, Reader};
@@ -188,8 +189,8 @@ impl Reader {
     }
 
     /// A further question about the [`entry`](Reader::entry) of the last answer: the answer about a variable at a position of it, the one that
-    /// [`ask`](Reader::ask) gives, but for `cells`, the count of newly decided cells. Successes and failures of the answers before are looked up; a loop,
-    /// a missing rule or the entry's end is followed again, to name its pair.
+    /// [`ask`](Reader::ask) gives, but for `cells`, the count of newly decided cells. Successes and failures of the answers before are looked up; a loop
+    /// or a missing rule is followed again, to name its pair.
     ///
     /// A refusal (8 or 9) leaves entry and table as they were. Before the first answer it is a question about the empty entry.
     ///
@@ -214,8 +215,7 @@ impl Reader {
         lent::further(&self.sheet, &self.entry, variable, position, table, work)
     }
 
-    /// The reading of an entry: the answer about the start variable at 0, and for success and failure the lines that show it. The entry need not end
-    /// with the endmarker.
+    /// The reading of an entry: the answer about the start variable at 0, and for success and failure the lines that show it.
     ///
     /// ```
     /// use entryreader::Reader;
@@ -301,7 +301,7 @@ impl Reader {
         self.header.start
     }
 
-    /// The endmarker.
+    /// The endmarker of the sheet's line 1, which is a byte like others: nothing uses it since order 11.
     ///
     /// ```
     /// let reader = entryreader::Reader::new(b"    7    2   46    0    0\n")?;
@@ -363,8 +363,8 @@ impl Reader {
     /// let mut reader = entryreader::Reader::new(b"    1    1   46    0    0\n    1    2   46    0    0\n")?;
     /// assert_eq!(reader.entry(), b"");
     /// reader.verdict(b".")?;
-    /// // Refused: the endmarker is missing.
-    /// assert!(reader.verdict(b"6").is_err());
+    /// // Refused: it is too long.
+    /// assert!(reader.verdict(&[b'.'; 4_097]).is_err());
     /// assert_eq!(reader.entry(), b".");
     /// # Ok::<(), entryreader::Error>(())
     /// ```
@@ -379,6 +379,10 @@ impl Reader {
     /// let mut reader = entryreader::Reader::new(b"    1    1   46    0    0\n    1    2   46    0    0\n")?;
     /// reader.verdict(b".")?;
     /// assert_eq!(reader.table(), [6, 1, 0, 0]);
+    /// // No reach is above 1: the entry's end was not looked at, and with any bytes behind it the answer is the same.
+    /// assert!(reader.table().chunks(2).all(|cell| cell[1] <= 1));
+    /// reader.verdict(b"")?;
+    /// assert_eq!(reader.table(), [1, 1]);
     /// # Ok::<(), entryreader::Error>(())
     /// ```
     pub fn table(&self) -> &[u32] {

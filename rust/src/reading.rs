@@ -88,7 +88,7 @@ fn number(field: &[u8]) -> u32 {
 pub struct Reading {
     /// The answer.
     pub answer: Answer,
-    /// A line for each pair that the question reaches, in the order in which they are written; none for loop, missing and end.
+    /// A line for each pair that the question reaches, in the order in which they are written; none for loop and missing.
     pub lines: Vec<Line>,
     /// The same lines as bytes, 49 for each: six fields of 8 columns and a line feed.
     pub bytes: Vec<u8>,

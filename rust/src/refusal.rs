@@ -23,10 +23,8 @@ pub enum Refusal {
     Rule,
     /// 6: the entry, of a correction the corrected one, has over 4,096 bytes; of a table that is stored or restored: n is over 4,096.
     LongEntry,
-    /// 7, of a verdict and its opening only: the endmarker is not the entry's last byte, or stands earlier too.
-    Endmarker,
-    /// 8: the variable asked for is not in 1 to V.
-    Variable,
+    /// 8: the variable asked for is not in 1 to V. There is no 7 since order 11.
+    Variable = 8,
     /// 9: the position asked for is above the entry's length.
     Place,
     /// 10: the table has fewer than twice V times (n + 1) numbers, or the work slice fewer than V times (n + 1).
@@ -48,9 +46,9 @@ pub enum Refusal {
     Allowance,
     /// 18, of a correction: the corrected byte's position is not below the entry's length.
     Corrected,
-    /// 19, of a correction and a further question only: a cell of the table has an outcome over 5 + n, a success that ends left of its place, or a
-    /// success or a failure whose reach is below its place; for a correction a cell that it retains, for a further question any of the first V times
-    /// (n + 1).
+    /// 19, of a correction and a further question only: a cell of the table has outcome 4 or one over 5 + n, a success that ends left of its place, or
+    /// a success or a failure whose reach is below its place; for a correction a cell that it retains, for a further question any of the first V
+    /// times (n + 1).
     Cell,
     /// 20, of a table that is stored or restored: it or the one that it goes to has fewer than twice V times (n + 1) numbers.
     Tables,
@@ -60,14 +58,13 @@ pub enum Refusal {
 
 impl Refusal {
     /// In the order of their numbers, from 1 on.
-    const ALL: [Refusal; 21] = [
+    const ALL: [Refusal; 20] = [
         Refusal::NotLines,
         Refusal::Field,
         Refusal::Header,
         Refusal::RuleVariable,
         Refusal::Rule,
         Refusal::LongEntry,
-        Refusal::Endmarker,
         Refusal::Variable,
         Refusal::Place,
         Refusal::Room,
@@ -84,13 +81,13 @@ impl Refusal {
         Refusal::Entries,
     ];
 
-    /// The refusal of a number from 1 to 21.
+    /// The refusal of a number from 1 to 21, of which 7 is none.
     ///
     /// ```
     /// use entryreader::Refusal;
     ///
     /// assert_eq!(Refusal::from_number(6), Some(Refusal::LongEntry));
-    /// assert_eq!(Refusal::from_number(0), None);
+    /// assert_eq!(Refusal::from_number(7), None);
     /// ```
     pub fn from_number(number: u32) -> Option<Refusal> {
         Refusal::ALL
@@ -98,12 +95,12 @@ impl Refusal {
             .find(|refusal| refusal.number() == number)
     }
 
-    /// Its number, from 1 to 21.
+    /// Its number, from 1 to 6 or 8 to 21.
     ///
     /// ```
     /// use entryreader::Refusal;
     ///
-    /// assert_eq!(Refusal::Endmarker.number(), 7);
+    /// assert_eq!(Refusal::Variable.number(), 8);
     /// ```
     pub fn number(self) -> u32 {
         self as u32
@@ -130,9 +127,6 @@ impl Refusal {
             }
             Refusal::Rule => "kind over 4, or operands that do not fit",
             Refusal::LongEntry => "the entry has over 4,096 bytes",
-            Refusal::Endmarker => {
-                "the entry does not end with the sheet's endmarker, or has it earlier too"
-            }
             Refusal::Variable => "the variable asked for is not in 1 to V",
             Refusal::Place => "the position asked for is above the entry's length",
             Refusal::Room => {

@@ -2,7 +2,7 @@
 //!
 //! Each call returns 0 with its numbers in `answer`, or 100 plus the number of a refusal, and then everything lent is as it was; [`sheet`] and
 //! [`judge`] store a refusal in `answer`.
-//! The code of an outcome is the one in its cell: 1 for failure, 2 loop, 3 missing, 4 end, 5 + q for success ending at q.
+//! The code of an outcome is the one in its cell: 1 for failure, 2 loop, 3 missing, 5 + q for success ending at q.
 //!
 //! ```
 //! use entryreader::{Pair, test_calls};
@@ -38,7 +38,9 @@ pub use crate::calls::sheet;
 /// assert_eq!(judge(sheet, b".", &mut table, &mut work, &mut answer), 0);
 /// assert_eq!(answer, [0, 0, 1, 1]);
 /// assert_eq!(judge(sheet, b"", &mut table, &mut work, &mut answer), 0);
-/// assert_eq!(answer, [9, 7, 0, 0]);
+/// assert_eq!(answer, [1, 0, 0, 1]);
+/// assert_eq!(judge(sheet, b"..", &mut table, &mut work, &mut answer), 0);
+/// assert_eq!(answer, [9, 10, 0, 0]);
 /// ```
 pub use crate::calls::judge;
 
@@ -50,7 +52,7 @@ pub use crate::calls::judge;
 /// // 1 calls itself before it has taken a byte.
 /// let sheet = b"    1    1   46    0    0\n    1    4    1    1    1\n";
 /// let (mut table, mut work, mut answer) = ([0; 4], [0; 2], [7; 2]);
-/// assert_eq!(opening(sheet, b"", &mut table, &mut work, &mut answer), 107);
+/// assert_eq!(opening(sheet, b"..", &mut table, &mut work, &mut answer), 110);
 /// assert_eq!(answer, [7, 7]);
 /// assert_eq!(opening(sheet, b".", &mut table, &mut work, &mut answer), 0);
 /// assert_eq!(answer, [1, 0]);

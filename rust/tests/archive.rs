@@ -344,6 +344,36 @@ fn case_a() {
     assert_eq!(answer, Ok(Answer::Success { end: 3, cells: 0 }));
 }
 
+/// A table of case e from before order 11, by hand, whose cells of 1, 3 and 5 hold 4: it is stored and restored like any other, and then refused (19).
+#[test]
+fn fours() {
+    let rows = [
+        [4, 0, 0, 0, 0, 0],
+        [6, 1, 0, 0, 0, 0],
+        [0, 0, 4, 0, 0, 0],
+        [0, 0, 7, 2, 0, 0],
+        [0, 0, 0, 0, 4, 0],
+        [0, 0, 0, 0, 0, 0],
+    ];
+    let by_place = [
+        [4, 0, 6, 1, 0, 0, 0, 0, 0, 0, 0, 0],
+        [0, 0, 0, 0, 4, 0, 7, 2, 0, 0, 0, 0],
+        [0, 0, 0, 0, 0, 0, 0, 0, 4, 0, 0, 0],
+    ];
+    let (table, mut stored, mut restored) = (rows.concat(), [7; 36], [7; 36]);
+    store(6, 2, &table, &mut stored).expect("both have 36 numbers");
+    assert_eq!(stored[..], by_place.concat());
+    assert_eq!(
+        (counts(&table), counts(&stored)),
+        ([13, 0, 0, 0, 3, 2], [13, 0, 0, 0, 3, 2])
+    );
+    restore(6, 2, &stored, &mut restored).expect("both have 36 numbers");
+    assert_eq!(restored[..], table);
+    let answer = further(H.as_bytes(), b"-6", 1, 0, &mut restored, &mut [7; 18]);
+    assert_eq!(answer.map_err(|error| error.refusal()), Err(Refusal::Cell));
+    assert_eq!(restored[..], table);
+}
+
 /// A table that was stored, and restored among other numbers.
 fn archived(random: &mut Random, case: &Case, table: &[u32]) -> Vec<u32> {
     let size = Size::new(case.variables as u32, case.n());

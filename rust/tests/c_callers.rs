@@ -3,7 +3,7 @@
 #[allow(dead_code)] // Other tests ask the other cases.
 mod marked_cases;
 
-use entryreader::{Answer, Claim, Error, Pair, Verdict, lent};
+use entryreader::{Answer, Claim, Code, Error, Pair, Verdict, lent};
 use marked_cases::{BEHIND, CELLS, G, H, READING, STORED};
 use std::collections::BTreeMap;
 use std::fmt::Write as _;
@@ -64,19 +64,15 @@ fn looping(sheet: &'static str, entry: &'static str, question: [u32; 4], least: 
     }
 }
 
-/// The marked entries, of which no verdict loops; then a refused sheet, a refused entry and one that the tables are too short for; then case g with an
-/// endmarker, and a loop behind `66-`.
+/// The marked entries, of which g and h loop and are empty; then a refused sheet, a refused entry and one that the tables are too short for; then case g
+/// with a byte, and a loop behind `66-`.
 fn cases() -> Vec<Case> {
     let mut cases: Vec<Case> = marked_cases::cases()
-        .map(|case| {
-            let verdict = case.verdict.map(|code| code.number());
-            let verdict = verdict.map_err(|refusal| 100 + refusal.number());
-            Case {
-                handed: (case.sheet.as_bytes(), case.entry.as_bytes()),
-                question: Ok(answer_numbers(case.answer)),
-                verdict,
-                opening: verdict.map(|_| [0, 0]),
-            }
+        .map(|case| Case {
+            handed: (case.sheet.as_bytes(), case.entry.as_bytes()),
+            question: Ok(answer_numbers(case.answer)),
+            verdict: Ok(case.verdict.number()),
+            opening: Ok([u32::from(case.verdict == Code::Loop), 0]),
         })
         .into();
     let h = H.as_bytes();
@@ -179,7 +175,6 @@ fn answer_numbers(answer: Answer) -> [u32; 4] {
         Answer::Failure { cells } => [1, 0, 0, cells],
         Answer::Loop { named, cells } => of(2, named, cells),
         Answer::Missing { named, cells } => of(3, named, cells),
-        Answer::End { named, cells } => of(4, named, cells),
     }
 }
 
@@ -190,7 +185,6 @@ fn verdict_numbers(found: Result<Verdict, Error>, length: u32) -> [u32; 4] {
         Ok(Verdict::Failure { cells }) => [1, 0, 0, cells],
         Ok(Verdict::Loop { named, cells }) => of(2, named, cells),
         Ok(Verdict::Missing { named, cells }) => of(3, named, cells),
-        Ok(Verdict::End { named, cells }) => of(4, named, cells),
         Ok(Verdict::Partial { end, cells }) => [5, 0, end, cells],
         Err(error) => [9, error.number(), error.line().unwrap_or(0), 0],
     }
@@ -370,8 +364,8 @@ fn marked_entries_in_c() {
 }
 
 /// Case a asked. Then its sign is a comma: with 1 named for it that is refused, and the table is the same; with 0 named five cells at 0 fail. Then it is
-/// the sign again: two cells are decided anew, and that of 6, which looks at nothing, stays. Further behind its last byte, where a sign is looked for: two
-/// more, which have the end.
+/// the sign again: two cells are decided anew, and that of 6, which looks at nothing, stays. Further behind its last byte, where a sign and
+/// a digit are looked for and none is: five more, which fail, and reach 4 but for that of 6.
 fn cells_of_a() -> String {
     let mut text = String::new();
     let mut comma = CELLS;
@@ -381,13 +375,15 @@ fn cells_of_a() -> String {
     let mut back = CELLS;
     back[5][0] = 1;
     let mut behind = back;
-    [behind[0][6], behind[1][6]] = [4, 4];
+    for (variable, reach) in [(1, 4), (2, 4), (3, 4), (4, 4), (6, 3)] {
+        [behind[variable - 1][6], behind[variable - 1][7]] = [1, reach];
+    }
     for (name, code, numbers, cells) in [
         ("question", 0, [8, 0, 0, 5], CELLS),
         ("misplaced", 121, [7; 4], CELLS),
         ("correct", 0, [1, 0, 0, 5], comma),
         ("corrected back", 0, [8, 0, 0, 2], back),
-        ("further", 0, [4, 2, 3, 2], behind),
+        ("further", 0, [1, 0, 0, 5], behind),
     ] {
         let table = [&cells.concat()[..], &[7; 16]].concat();
         report(&mut text, name, code, &numbers);

@@ -105,7 +105,7 @@ const BRACKETS: &str = "    7    1   46    0    0
     7    2   41    0    0
 ";
 
-/// Success, failure, end, loop and missing.
+/// Success, failure before the entry's end and at it, loop and missing.
 fn few_cases() -> [Case; 6] {
     [
         Case::new(H, b"-6.", 0),

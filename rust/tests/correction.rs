@@ -33,6 +33,9 @@ use tables::{Case, EDGES, START, any_cells, loops, two_rules};
 /// The code of a loop.
 const LOOP: u32 = 2;
 
+/// The codes of the outcomes, every success as 5.
+const CODES: [usize; 4] = [1, 2, 3, 5];
+
 /// How often each was met. By codes, every success as 5: outcomes; and what a cell held whose pair is reached, where it was retained at a position
 /// above c, where it was retained for its reach, and where it was blanked. Loops that begin right of the corrected byte; corrections that decide fewer
 /// cells than are reached; corrections over the table of a correction.
@@ -97,7 +100,8 @@ impl Met {
     fn assert_met(&self, often: u64) {
         let by_reach = [self.by_reach[1], self.by_reach[SUCCESS as usize]];
         let counts = [self.loops_right, self.fewer, self.chained];
-        let of_codes = [&self.outcomes, &self.above, &self.blanked].map(|met| &met[1..]);
+        let of_codes = [&self.outcomes, &self.above, &self.blanked];
+        let of_codes = of_codes.map(|met| CODES.map(|code| met[code]));
         let met = [&of_codes.concat()[..], &by_reach, &counts].concat();
         assert!(met.into_iter().all(|met| often < met), "{self:?}");
     }
@@ -143,7 +147,8 @@ fn many_longer_chains() {
     met.assert_met(500);
 }
 
-/// A loop wholly right of the corrected byte, whose cells are retained: it is walked again, so that its pair is named. A missing rule and an end too.
+/// A loop wholly right of the corrected byte, whose cells are retained: it is walked again, so that its pair is named. A missing rule too; a
+/// failure for the entry's end stays like any other.
 #[test]
 fn retained_loops() {
     let mut random = Random(18);
@@ -152,7 +157,7 @@ fn retained_loops() {
         (pair(1, 1), [2, 3, 2, 0]),
         (pair(3, 2), [2, 3, 2, 0]),
         (pair(5, 1), [3, 4, 2, 0]),
-        (pair(2, 3), [4, 2, 3, 0]),
+        (pair(2, 3), [1, 0, 0, 0]),
         (pair(2, 1), [7, 0, 0, 0]),
     ] {
         let mut case = loops(b"xaa", 0);
@@ -168,7 +173,8 @@ fn retained_loops() {
     assert_eq!(left_of_it, Ok([2, 3, 1, 3]));
 }
 
-/// A loop, a missing rule and an end at or left of the corrected byte are blanked although their reach is 0, and decided anew.
+/// A loop and a missing rule at or left of the corrected byte are blanked although their reach is 0, and decided anew; a failure for the entry's end is
+/// for its reach, n + 1.
 #[test]
 fn blanked_loops() {
     let mut random = Random(28);
@@ -187,12 +193,12 @@ fn blanked_loops() {
         [cells[8], cells[9]] = [1, 1];
         assert_eq!(table[..40], cells);
     }
-    // Case e: 1, 3 and 5 have the end, of which 5 stands behind the corrected byte.
+    // Case e: 1, 3 and 5 fail and reach 3, of which 5 stands behind the corrected byte; 4 at 1 reaches 2, and 2 at 0 stays.
     let mut case = Case::new(marked_cases::H, b"-6", 1);
     let mut table = case.question(&mut random, START);
     case.correct_to(1, b'7');
     let said = case.correction(&mut random, START, &mut table);
-    assert_eq!(said, Ok([4, 5, 2, 3]));
+    assert_eq!(said, Ok([1, 0, 0, 3]));
 }
 
 /// The correction of an old entry as a program makes it, over a blank table but for the outcome of the last cell.
@@ -220,28 +226,26 @@ fn safe_call() {
     let success = |end, cells| Ok(Answer::Success { end, cells });
     let loops = |named, cells| Ok(Answer::Loop { named, cells });
     let missing = |named, cells| Ok(Answer::Missing { named, cells });
-    let end = |named, cells| Ok(Answer::End { named, cells });
+    let failure = |cells| Ok(Answer::Failure { cells });
     for (answer, expected) in [
         (as_program(b"xaa", [2, 1], 0, 8), success(2, 1)),
-        (
-            as_program(b"aaa", [2, 0], 0, 8),
-            Ok(Answer::Failure { cells: 1 }),
-        ),
+        (as_program(b"aaa", [2, 0], 0, 8), failure(1)),
         (as_program(b"yaa", [1, 1], 0, 8), loops(pair(3, 2), 3)),
         (as_program(b"xaa", [5, 1], 0, 8), missing(pair(4, 2), 3)),
-        (as_program(b"xaa", [2, 3], 0, 8), end(pair(2, 3), 1)),
+        (as_program(b"xaa", [2, 3], 0, 8), failure(1)),
         (as_program(b"xaa", [1, 1], 3, 8), Err(Refusal::Corrected)),
         (as_program(b"xaa", [1, 1], 2, 9), Err(Refusal::Entries)),
         (as_program(b"ya", [1, 1], 2, 8), Err(Refusal::Entries)),
         (as_program(b"yax", [1, 1], 2, 9), Err(Refusal::Cell)),
         (as_program(b"yaa", [1, 1], 2, 7), Err(Refusal::Cell)),
+        (as_program(b"yaa", [1, 1], 2, 4), Err(Refusal::Cell)),
     ] {
         assert_eq!(answer, expected);
     }
 }
 
 /// Any table: refused with 18, 21 or 19 exactly where their conditions hold, else the call ends within its slices; the same with the table of another
-/// sheet or another entry. What brings a table under 19 was met as its one fault, at positions above c and up to c.
+/// sheet or another entry. What brings a table under 19 was met as its one fault, at positions above c and up to c, where a 4 is none: it is blanked.
 #[test]
 fn any_table() {
     let mut random = Random(19);
@@ -277,7 +281,9 @@ fn any_table() {
     let all = [None, Some(18), Some(19), Some(21)];
     assert!(met.keys().eq(&all), "{met:?}");
     assert!(met.values().all(|met| 1_000 < *met), "{met:?}");
-    assert_eq!(alone.len(), 6, "{alone:?}");
+    let fours = alone.keys().filter(|(fault, _)| *fault == Fault::Four);
+    assert!(fours.eq([&(Fault::Four, true)]), "{alone:?}");
+    assert_eq!(alone.len(), 7, "{alone:?}");
     assert!(alone.values().all(|met| 100 < *met), "{alone:?}");
 }
 
@@ -314,7 +320,7 @@ fn as_said(n: u32, c: u32, place: u32, cell: Cell) -> (Option<Fault>, bool, bool
     (fault, stays, c < place)
 }
 
-/// For each reason, at places up to c and above c.
+/// For each reason, at places up to c and above c; a 4 stays above c only.
 #[test]
 fn every_cell() {
     let mut met = BTreeSet::new();
@@ -331,7 +337,7 @@ fn every_cell() {
     ];
     let stays = reasons.map(|fault| [(fault, true, false), (fault, true, true)]);
     let mut possible = BTreeSet::from_iter(stays.concat());
-    possible.insert((None, false, false));
+    possible.extend([(None, false, false), (Some(Fault::Four), true, true)]);
     assert_eq!(met, possible);
 }
 
@@ -341,7 +347,9 @@ fn every_place() {
     for n in [14_u32, 15, 16, 17, 30, 31, 32, 33, 47, 63] {
         for place in 0..=n {
             for c in [0, place.saturating_sub(1), place.min(n - 1), n / 2, n - 1] {
-                for cell in [[1, c], [1, c + 1], [5 + n, n], [6 + n, c], [2, 0], [0, 7]] {
+                let (results, others) = ([[1, c], [1, c + 1], [5 + n, n]], [[2, 0], [0, 7]]);
+                let at_fault = [[6 + n, c], [4, 0], [4, c]];
+                for cell in results.into_iter().chain(others).chain(at_fault) {
                     as_said(n, c, place, cell);
                 }
             }
@@ -381,6 +389,8 @@ fn edges() {
         ([2, 0], Ok(BLANK)),
         ([3, 0], Ok(BLANK)),
         ([4, 0], Ok(BLANK)),
+        ([4, 2], Ok(BLANK)),
+        ([4, 9], Ok(BLANK)),
         ([2, 9], Ok(BLANK)),
         ([0, 7], Ok(BLANK)),
     ] {

@@ -89,13 +89,13 @@ impl Kept {
 
 /// What chains meet beside the answers: which call each follows; and how a further question comes to which cells.
 #[rustfmt::skip]
-const POSSIBLE: [&str; 30] = [
+const POSSIBLE: [&str; 27] = [
     "question after nothing", "question after question", "question after further", "question after correction",
     "further after nothing", "further after question", "further after further", "further after correction",
     "correction after nothing", "correction after question", "correction after further", "correction after correction",
-    "Asked blank", "Asked success", "Asked failure", "Asked loop", "Asked missing", "Asked end",
-    "First blank", "First success", "First failure", "First loop", "First missing", "First end",
-    "Second blank", "Second success", "Second failure", "Second loop", "Second missing", "Second end",
+    "Asked blank", "Asked success", "Asked failure", "Asked loop", "Asked missing",
+    "First blank", "First success", "First failure", "First loop", "First missing",
+    "Second blank", "Second success", "Second failure", "Second loop", "Second missing",
 ];
 
 /// Chains of one to eight calls over one table, with short entries.
@@ -183,7 +183,7 @@ fn many_longer_chains() {
 }
 
 /// Case a by hand, from a blank table. The digit first; then the whole entry, which reads all but the digit; then what is known, and what is not: a sign
-/// at 1, and what stands behind the entry, where the byte that is not there is named.
+/// at 1, and what stands behind the entry, where each byte that is asked for fails with reach 4.
 #[test]
 fn case_a() {
     let mut random = Random(83);
@@ -199,29 +199,29 @@ fn case_a() {
         (pair(3, 1), [8, 0, 0, 0]),
         // 1 and 2 at 1, where no sign stands; 3 is known there.
         (pair(1, 1), [8, 0, 0, 2]),
-        (pair(3, 3), [4, 4, 3, 2]),
-        (pair(3, 3), [4, 4, 3, 0]),
-        // 1 at 3 asks for a sign.
-        (pair(1, 3), [4, 2, 3, 2]),
-        // 6 fails wherever it stands.
-        (pair(6, 3), [1, 0, 0, 1]),
+        // 4 fails at 3, and so 6 is called, which fails wherever it stands.
+        (pair(3, 3), [1, 0, 0, 3]),
+        (pair(3, 3), [1, 0, 0, 0]),
+        // 1 at 3 asks for a sign, and then for 3.
+        (pair(1, 3), [1, 0, 0, 2]),
+        (pair(6, 3), [1, 0, 0, 0]),
     ] {
         let found = case.further(&mut random, asked, &mut table);
         assert_eq!(found, Ok(said), "{asked:?}");
     }
     let rows = [
-        [8, 3, 8, 3, 0, 0, 4, 0],
-        [6, 1, 1, 2, 0, 0, 4, 0],
-        [0, 0, 8, 3, 0, 0, 4, 0],
-        [0, 0, 7, 2, 0, 0, 4, 0],
+        [8, 3, 8, 3, 0, 0, 1, 4],
+        [6, 1, 1, 2, 0, 0, 1, 4],
+        [0, 0, 8, 3, 0, 0, 1, 4],
+        [0, 0, 7, 2, 0, 0, 1, 4],
         [0, 0, 0, 0, 8, 3, 0, 0],
         [0, 0, 0, 0, 0, 0, 1, 3],
     ];
     assert_eq!(table, rows.concat());
 }
 
-/// A loop, a missing rule and an end that the table holds are walked to again, so that their pair is named: where the pair is asked for again, and where it
-/// is come to from another. Nothing of them is new.
+/// A loop and a missing rule that the table holds are walked to again, so that their pair is named: where the pair is asked for again, and where it is
+/// come to from another. Nothing of them is new. A failure for the entry's end is looked up.
 #[test]
 fn retained_loops() {
     let mut random = Random(84);
@@ -233,9 +233,9 @@ fn retained_loops() {
         // 5 at 1 takes the a and comes to 4 at 2, which has no rule.
         (pair(5, 1), [3, 4, 2, 0], pair(4, 2), [3, 4, 2, 0]),
         (pair(4, 2), [3, 4, 2, 0], pair(5, 1), [3, 4, 2, 2]),
-        // 2 at 3 is the first that 5 and 1 ask for there.
-        (pair(2, 3), [4, 2, 3, 0], pair(5, 3), [4, 2, 3, 1]),
-        (pair(5, 3), [4, 2, 3, 0], pair(1, 3), [4, 2, 3, 1]),
+        // 2 fails at 3, where the entry ends: 5 comes to 4 there, and 1 to 3.
+        (pair(2, 3), [1, 0, 0, 0], pair(5, 3), [3, 4, 3, 2]),
+        (pair(5, 3), [3, 4, 3, 0], pair(1, 3), [2, 3, 3, 2]),
     ] {
         let mut table = case.question(&mut random, first);
         let mut further = |asked| case.further(&mut random, asked, &mut table);
@@ -281,16 +281,16 @@ fn safe_call() {
     };
     let loops = |named, cells| Ok(Answer::Loop { named, cells });
     let missing = |named, cells| Ok(Answer::Missing { named, cells });
-    let end = |named, cells| Ok(Answer::End { named, cells });
     for (answer, expected) in [
         (said(2, 1, BLANK), Ok(Answer::Success { end: 2, cells: 1 })),
         (said(2, 0, BLANK), Ok(Answer::Failure { cells: 1 })),
         (said(1, 1, BLANK), loops(pair(3, 2), 3)),
         (said(5, 1, BLANK), missing(pair(4, 2), 3)),
-        (said(2, 3, BLANK), end(pair(2, 3), 1)),
+        (said(2, 3, BLANK), Ok(Answer::Failure { cells: 1 })),
         (said(1, 4, [9, 3]), Err(Refusal::Place)),
         (said(1, 1, [9, 3]), Err(Refusal::Cell)),
         (said(1, 1, [7, 3]), Err(Refusal::Cell)),
+        (said(1, 1, [4, 0]), Err(Refusal::Cell)),
     ] {
         assert_eq!(answer, expected);
     }
@@ -379,8 +379,9 @@ fn any_tables() {
         }
     }
     met.assert_met(&TABLES, 500);
-    // The first cell, which may be the last too, is at place 0: nothing ends left of that or reaches less.
-    let possible = [4, 2, 2];
+    // A 4 and a number over 5 + n are at fault anywhere. The first cell, which may be the last too, is at place 0: nothing ends left of that or reaches
+    // less.
+    let possible = [4, 4, 2, 2];
     assert_eq!(alone.len(), possible.into_iter().sum(), "{alone:?}");
     assert!(alone.values().all(|met| 5 < *met), "{alone:?}");
 }
@@ -421,7 +422,7 @@ fn every_place() {
             met.extend(cells.map(|cell| as_said(&case, at, cell)));
         }
     }
-    assert_eq!(met.len(), 4, "{met:?}");
+    assert_eq!(met.len(), 5, "{met:?}");
 }
 
 /// 19 at its edges, by hand.

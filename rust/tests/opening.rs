@@ -44,6 +44,8 @@ type Said = Result<Option<usize>, u32>;
 struct Openings {
     comparison: Comparison,
     met: Met,
+    /// How often an opening loops and a longer one does not, where the whole entry does not loop and where it does.
+    uneven: [u64; 2],
 }
 
 impl Openings {
@@ -51,6 +53,7 @@ impl Openings {
         Openings {
             comparison: Comparison::new(seed),
             met: Met::default(),
+            uneven: [0; 2],
         }
     }
 
@@ -72,6 +75,23 @@ impl Openings {
         self.said_lacking(case, [0, 0])
     }
 
+    /// The opening, with each m tried beside it. An opening need not loop where a shorter one does, or where the whole entry does not: both are counted.
+    fn said_of_all(&mut self, case: &Case) -> Said {
+        let said = self.said(case);
+        if let (Ok(sheet), Ok(least)) = (recognizer::read(&case.sheet), said) {
+            let all = 0..=case.entry.len();
+            let loops: Vec<bool> = all
+                .map(|m| recognizer::loops(&sheet, &case.entry[..m]))
+                .collect();
+            let first = loops.iter().position(|loops| *loops);
+            let whole = loops.last() == Some(&true);
+            assert_eq!(least, first.filter(|_| whole), "{case}");
+            let uneven = first.is_some_and(|first| loops[first..].contains(&false));
+            self.uneven[usize::from(whole)] += u64::from(uneven);
+        }
+        said
+    }
+
     /// Counts what was met: the verdict, and on how many bytes it loops.
     fn note(&mut self, case: &Case, found: &Result<Opened, u32>) {
         let whole = Some(case.entry.len());
@@ -89,42 +109,18 @@ impl Openings {
     }
 }
 
-/// Where the verdict loops, every opening from the least on loops; where it does not, none does.
-fn assert_all_longer_loop(case: &Case, said: Said) {
-    let (Ok(sheet), Ok(least)) = (recognizer::read(&case.sheet), said) else {
-        return;
-    };
-    for m in 0..=case.entry.len() {
-        let loops = recognizer::loops(&sheet, &case.entry[..m]);
-        assert_eq!(loops, least.is_some_and(|least| least <= m), "{m}, {case}");
-    }
-}
-
-/// Mostly an entry that has its endmarker at the end and nowhere else.
-fn random_entry(random: &mut Random, length: usize) -> Vec<u8> {
-    let mut entry = questions::entry(random, length);
-    if !random.one_in(12) {
-        entry.retain(|byte| *byte != b'.');
-        entry.push(b'.');
-    }
-    entry
-}
-
-/// The opening of a random case of so many variables, with every longer one tried.
+/// The opening of a random case of so many variables.
 fn random_opening(openings: &mut Openings, variables: u64, length: usize) {
     let random = openings.random();
-    let sheet = questions::sheet(random, variables);
-    let case = Case::new(&sheet, &random_entry(random, length), 0);
-    let said = openings.said(&case);
-    assert_all_longer_loop(&case, said);
+    let (sheet, entry) = questions::sheet_and_entry(random, variables, length);
+    let _ = openings.said_of_all(&Case::new(&sheet, &entry, 0));
 }
 
 /// What a random case may be answered.
 #[rustfmt::skip]
-const ANSWERS: [&str; 13] = [
-    "recognised", "partial", "failure", "missing", "end",
+const ANSWERS: [&str; 11] = [
+    "recognised", "partial", "failure", "missing",
     "loop 0", "loop 1", "loop 2", "loop 3", "loop 4", "loop 5 or more", "loop n",
-    "refused 7",
 ];
 
 /// So many random sheets of up to 16 variables, and entries of up to 12 bytes.
@@ -141,6 +137,8 @@ fn random_sheets() {
     let mut openings = Openings::new(71);
     short_cases(&mut openings, 20_000);
     openings.met.assert_met(&ANSWERS, 10);
+    let uneven = openings.uneven;
+    assert!(uneven.into_iter().all(|met| 5 < met), "{uneven:?}");
 }
 
 /// Sheets of up to 256 variables, entries of up to 60 bytes.
@@ -191,16 +189,32 @@ enum Through {
     OtherwiseBehindFailure,
 }
 
-/// A sheet that takes these bytes one by one, then looks at one more and takes it not, or does not look, and then goes round so many variables.
-fn made(taken: &[u8], looks: bool, round: u32, through: Through) -> Vec<u8> {
+/// What a sheet looks for before its round, and takes not.
+#[derive(Clone, Copy, Debug)]
+enum Look {
+    Nothing,
+    /// That an exclamation mark, which no entry has, is not there: at the entry's end none is either.
+    Absent,
+    /// That this byte is there.
+    Present(u8),
+}
+
+/// A sheet that takes these bytes one by one, then looks for something, and then goes round so many variables.
+fn made(taken: &[u8], looks: Look, round: u32, through: Through) -> Vec<u8> {
     let look = 1 + taken.len() as u32;
     let first = look + 1;
     let fails = first + round;
-    let [nothing, mark, absent, byte] = [1, 2, 3, 4].map(|behind| fails + behind);
+    let behind = [1, 2, 3, 4, 5].map(|behind| fails + behind);
+    let [nothing, mark, absent, present, byte] = behind;
     let mut rules: Vec<[u32; 4]> = (1..look)
         .map(|taker| [4, byte + taker - 1, taker + 1, fails])
         .collect();
-    rules.push([4, if looks { absent } else { nothing }, first, fails]);
+    let (looked_for, sought) = match looks {
+        Look::Nothing => (nothing, b'!'),
+        Look::Absent => (absent, b'!'),
+        Look::Present(byte) => (present, byte),
+    };
+    rules.push([4, looked_for, first, fails]);
     rules.extend((1..=round).map(|number| {
         let next = first + number % round;
         match through {
@@ -209,18 +223,19 @@ fn made(taken: &[u8], looks: bool, round: u32, through: Through) -> Vec<u8> {
             Through::OtherwiseBehindFailure => [4, fails, fails, next],
         }
     }));
-    // An exclamation mark, which no entry has, is not there.
+    // That a byte is there is that it is not absent.
     rules.extend([
         [1, 0, 0, 0],
         [0; 4],
-        [2, 33, 0, 0],
+        [2, u32::from(sought), 0, 0],
         [4, mark, fails, nothing],
+        [4, absent, fails, nothing],
     ]);
     rules.extend(taken.iter().map(|byte| [2, u32::from(*byte), 0, 0]));
     sheets::sheet(&rules)
 }
 
-/// The least opening is what is taken before the round, and the byte that is looked at. With another byte among them there is no loop.
+/// The least opening is what is taken before the round, and the byte that is looked for. With another byte among them there is no loop.
 #[test]
 fn made_sheets() {
     let mut openings = Openings::new(74);
@@ -236,14 +251,16 @@ fn made_sheets() {
             .map(|_| random.pick(b"a6-\xE9 "))
             .collect();
         let (round, through) = (1 + random.below(5) as u32, throughs[number % 3]);
-        let (looks, ends) = (random.one_in(2), rest == 0 && random.one_in(2));
+        let ends = rest == 0 && random.one_in(2);
         let mut entry = [&bytes[..], b"."].concat();
         let taken = if ends { &entry[..] } else { &bytes[..takes] };
-        let looks = looks && !ends;
+        let present = entry.get(taken.len()).map(|byte| Look::Present(*byte));
+        let looks = random.pick(&[Some(Look::Nothing), Some(Look::Absent), present, present]);
+        let looks = looks.unwrap_or(Look::Absent);
         let sheet = made(taken, looks, round, through);
-        let least = taken.len() + usize::from(looks);
+        let least = taken.len() + usize::from(matches!(looks, Look::Present(_)));
         let said = openings.said(&Case::new(&sheet, &entry, 0));
-        assert_eq!(said, Ok(Some(least)), "{through:?} {round} {looks}");
+        assert_eq!(said, Ok(Some(least)), "{through:?} {round} {looks:?}");
         if takes != 0 {
             entry[openings.random().index(takes)] = b'x';
             let said = openings.said(&Case::new(&sheet, &entry, 0));
@@ -257,15 +274,50 @@ fn made_sheets() {
     openings.met.assert_met(&possible, 50);
 }
 
-/// Pages of so many bytes on a sheet of 60 rules, with a remark in the middle: the bytes up to the bracket that closes it are enough, and needed.
+/// A sheet that takes these bytes one by one and then calls the last of these variables; where the byte is not there, it calls that of the byte. Of them 1
+/// loops, 2 succeeds and 3 fails.
+fn with_ends(bytes: &[u8], ends: &[u32]) -> Vec<u8> {
+    let (first, n) = (4, bytes.len() as u32);
+    let last = ends[bytes.len()];
+    let start = if n == 0 { last } else { first };
+    let mut rules = vec![[4, 1, 1, 1], [0; 4], [1, 0, 0, 0]];
+    rules.extend((0..n).map(|at| {
+        let next = if at + 1 < n { first + at + 1 } else { last };
+        [4, first + n + at, next, ends[at as usize]]
+    }));
+    rules.extend(bytes.iter().map(|byte| [2, u32::from(*byte), 0, 0]));
+    let mut sheet = sheets::sheet(&rules);
+    sheet[5..10].copy_from_slice(format!("{start:5}").as_bytes());
+    sheet
+}
+
+/// What follows the bytes that are there decides of each opening alone: the least that loops is told where the whole entry loops, whether those between
+/// them do or not.
+#[test]
+fn uneven_sheets() {
+    let mut openings = Openings::new(84);
+    for _ in 0..2_000 {
+        let random = openings.random();
+        let n = random.index(9);
+        let bytes: Vec<u8> = (0..n).map(|_| random.pick(b"a6-\xE9 .")).collect();
+        let ends: Vec<u32> = (0..=n).map(|_| random.pick(&[1, 2, 3])).collect();
+        let case = Case::new(with_ends(&bytes, &ends), &bytes, 0);
+        let first = ends.iter().position(|end| *end == 1);
+        let said = openings.said_of_all(&case);
+        assert_eq!(said, Ok(first.filter(|_| ends[n] == 1)), "{ends:?}");
+    }
+    let uneven = openings.uneven;
+    assert!(uneven.into_iter().all(|met| 200 < met), "{uneven:?}");
+}
+
+/// Pages of so many bytes on a sheet of 60 rules, with a remark in the middle: the bytes up to the bracket that opens it are enough, and needed.
 fn pages(openings: &mut Openings, lengths: impl IntoIterator<Item = usize>) {
     for n in lengths {
         let page = society::remark(n);
-        let closed = page.entry.iter().position(|byte| *byte == b')');
+        let opened = page.entry.iter().position(|byte| *byte == b'(');
         let case = Case::new(&page.sheet, &page.entry, 0);
-        let said = openings.said(&case);
-        assert_eq!(said, Ok(closed.map(|closed| closed + 1)), "{case}");
-        assert_all_longer_loop(&case, said);
+        let said = openings.said_of_all(&case);
+        assert_eq!(said, Ok(opened.map(|opened| opened + 1)), "{case}");
     }
 }
 
@@ -294,9 +346,7 @@ fn society_cases(openings: &mut Openings, count: u64) {
             _ => [4, variable, called, called],
         };
         let sheet = with_rule(&line.sheet, variable, rule);
-        let case = Case::new(sheet, &line.entry, 0);
-        let said = openings.said(&case);
-        assert_all_longer_loop(&case, said);
+        let _ = openings.said_of_all(&Case::new(sheet, &line.entry, 0));
     }
 }
 
@@ -304,8 +354,8 @@ fn society_cases(openings: &mut Openings, count: u64) {
 fn society_sheets() {
     let mut openings = Openings::new(76);
     society_cases(&mut openings, 200);
-    let possible = [&["recognised"], &ANSWERS[5..12]].concat();
-    openings.met.assert_met(&possible, 1);
+    let possible = [&["recognised"], &ANSWERS[4..10]].concat();
+    openings.met.assert_met(&possible, 0);
 }
 
 /// Much more of all of it; what was met is printed.
@@ -321,10 +371,21 @@ fn many_openings() {
         society_cases(&mut openings, 5_000);
         pages(&mut openings, (60..300).chain([1_000, 2_000, 4_096]));
         // Not `println!`, which a passing test would keep to itself.
-        writeln!(std::io::stdout().lock(), "\nseed {seed}: {}", openings.met)
+        let (met, uneven) = (&openings.met, openings.uneven);
+        writeln!(std::io::stdout().lock(), "\nseed {seed}: {met}, {uneven:?}")
             .expect("it is printed");
     });
 }
+
+/// The empty entry loops, for 1 calls itself where 2, an `a`, fails. Behind an `a` there is nothing, or a `b` and then a loop.
+const UNEVEN: &str = "    6    1   46    0    0
+    1    4    2    3    1
+    2    2   97    0    0
+    3    4    4    5    6
+    4    2   98    0    0
+    5    4    5    5    5
+    6    0    0    0    0
+";
 
 /// By hand: no byte, some, and all of them; and none where the verdict is another.
 #[test]
@@ -343,10 +404,20 @@ fn by_hand() {
         (&last, b".", Some(1)),
         (H.as_bytes(), b"-6.", None),
         (I.as_bytes(), b"aa.", None),
+        (G.as_bytes(), b"", Some(0)),
+        (BEHIND.as_bytes(), b"66-", Some(3)),
+        (BEHIND.as_bytes(), b"66", None),
+        (H.as_bytes(), b"", None),
+        // Though the empty entry loops: `a` is recognised.
+        (UNEVEN.as_bytes(), b"a", None),
+        // Behind `a`, which does not loop.
+        (UNEVEN.as_bytes(), b"ab", Some(0)),
+        (UNEVEN.as_bytes(), b"b", Some(0)),
     ] {
-        let said = openings.said(&Case::new(sheet, entry, 0));
+        let said = openings.said_of_all(&Case::new(sheet, entry, 0));
         assert_eq!(said, Ok(least), "{entry:?}");
     }
+    assert_eq!(openings.uneven, [1, 1]);
 }
 
 /// An entry whose last byte alone makes it loop: the answer, and the whole table. The recognizer tries some openings.
@@ -439,11 +510,10 @@ fn refusals_in_their_order() {
     }
     let good = G.as_bytes();
     refused(6, good, &long, 0);
-    refused(7, good, &long[..4_096], 0);
-    refused(7, good, b"", 2);
-    refused(7, good, b"6", 4);
-    refused(7, good, b"6.6.", 10);
+    refused(10, good, &long[..4_096], 0);
+    refused(10, good, b"", 1);
     refused(10, good, b"66.", 7);
+    refused(10, good, b"6.6.", 9);
 }
 
 /// A reader's opening beside the recognizer and the verdict of a copy: the same table, and the same refusals, after which entry and table are as before.
@@ -491,7 +561,7 @@ fn correct_both(random: &mut Random, readers: [&mut Reader; 2], met: &mut Met) {
     }
 }
 
-/// One reader on entry after entry, short and long, closed and not; each time corrections follow.
+/// One reader on entry after entry, short and long; each time corrections follow.
 #[test]
 fn readers() {
     let (mut random, mut met) = (Random(83), Met::default());
@@ -502,7 +572,7 @@ fn readers() {
             let length = random.pick(&[0, 1, 2, 5, 9, 30]);
             let entry = match random.below(30) {
                 0 => vec![b'.'; 4_097],
-                _ => random_entry(&mut random, length),
+                _ => questions::entry(&mut random, length),
             };
             let mut copy = by_reader(&mut reader, &entry, &mut met);
             correct_both(&mut random, [&mut reader, &mut copy], &mut met);
@@ -512,7 +582,6 @@ fn readers() {
         "opening least",
         "opening none",
         "opening refused 6",
-        "opening refused 7",
         "correct answered",
         "correct refused 18",
     ];

@@ -105,7 +105,7 @@ fn files_in_papers() {
             files += 1;
         }
     }
-    assert_eq!(files, 6);
+    assert_eq!(files, 7);
 }
 
 /// The example of the import prints what the paper shows. Cargo builds it with the tests.
@@ -118,6 +118,29 @@ fn import_in_papers() {
     let program = Path::new(env!("CARGO_BIN_EXE_explain")).with_file_name("examples/baptisms");
     let program = program.to_str().expect("a path of text");
     assert_eq!(found.expect("it is shown").1, printed(program, &[]));
+}
+
+/// What the papers say of entries that were cut off: which answers last, whatever is appended, by the reaches in the table; and what comes of more text.
+#[test]
+fn cut_entries() {
+    let sheets = docs().join("sheets");
+    for (sheet, entry, code, lasts) in [
+        ("baptism.txt", "Marie 185.", Code::Failure, true),
+        ("baptism.txt", "Louis 1863", Code::Failure, false),
+        ("baptism.txt", "Louis 1863.", Code::Recognised, true),
+        ("name.txt", "Anna", Code::Failure, false),
+        ("unclosed.txt", "Anna", Code::Recognised, false),
+        ("unclosed.txt", "Annam", Code::Recognised, false),
+        ("unclosed.txt", "Anna.", Code::Partial, true),
+    ] {
+        let bytes = std::fs::read(sheets.join(sheet)).expect("it is there");
+        let mut reader = Reader::new(&bytes).expect("it is accepted");
+        let verdict = reader.verdict(entry.as_bytes()).map(|found| found.code());
+        assert_eq!(verdict, Ok(code), "{sheet} {entry}");
+        let n = reader.entry().len() as u32;
+        let found = reader.table().chunks(2).all(|cell| cell[1] <= n);
+        assert_eq!(found, lasts, "{sheet} {entry}");
+    }
 }
 
 /// The page that loops is recognised with the change that the paper proposes: one more variable, and a line that calls it.

@@ -40,7 +40,7 @@ fn marked_entries() {
         let reading = reader.reading(entry).expect("nothing is refused");
         assert_eq!(reading.answer, case.answer);
         let verdict = reader.verdict(entry).map(|verdict| verdict.code());
-        assert_eq!(verdict.map_err(|error| error.refusal()), case.verdict);
+        assert_eq!(verdict, Ok(case.verdict));
     }
 }
 
@@ -58,6 +58,12 @@ fn verdicts() {
         (G, ".", loops(1)),
         (THROUGH_SECOND, ".", loops(2)),
         (J, ".", Verdict::Missing { named, cells }),
+        // Without the endmarker, with it twice, and empty.
+        (H, "-6", Verdict::Failure { cells: 5 }),
+        (H, "6..", Verdict::Partial { end: 2, cells: 5 }),
+        (H, "", Verdict::Failure { cells: 5 }),
+        (I, "", Verdict::Recognised { cells: 3 }),
+        (G, "", loops(1)),
     ] {
         assert_eq!(reader(sheet).verdict(entry.as_bytes()), Ok(verdict));
     }
@@ -240,21 +246,18 @@ fn long_entries_take_no_memory() {
     assert!(kilobytes < 1_000_000, "{kilobytes}");
 }
 
-/// Every byte as an entry of its own, and before the endmarker: H takes digits only.
+/// Every byte before a full stop, of which H takes digits only, and as an entry of its own, which has no full stop.
 #[test]
 fn any_bytes() {
     let mut reader = reader(H);
+    let failure = Verdict::Failure { cells: 5 };
     for byte in 0..=255 {
         let expected = match byte {
-            b'0'..=b'9' => Ok(Verdict::Recognised { cells: 5 }),
-            b'.' => Err(7),
-            _ => Ok(Verdict::Failure { cells: 5 }),
+            b'0'..=b'9' => Verdict::Recognised { cells: 5 },
+            _ => failure,
         };
-        let found = reader
-            .verdict(&[byte, b'.'])
-            .map_err(|error| error.number());
-        assert_eq!(found, expected, "{byte}");
-        assert!(reader.ask(&[byte], 1, 0).is_ok(), "{byte}");
+        assert_eq!(reader.verdict(&[byte, b'.']), Ok(expected), "{byte}");
+        assert_eq!(reader.verdict(&[byte]), Ok(failure), "{byte}");
     }
 }
 
@@ -320,11 +323,10 @@ fn longest_corrected() {
     let entry = [&[b'a'; 4_095][..], b"."].concat();
     let (end, cells) = (4_095, 2 * 4_096 + 1);
     assert_eq!(reader.verdict(&entry), Ok(Verdict::Partial { end, cells }));
-    // The run from 0 to 4,095, and at 4,096 too; the byte at 4,095, and the one behind it that is not there.
-    let (variable, position, cells) = (2, 4_096, 4_096 + 1 + 2);
-    let named = Pair { variable, position };
+    // The run from 0 to 4,095, and at 4,096 too; the byte at 4,095, and the one behind it that is not there; and that nothing follows there.
+    let (whole, cells) = (4_096, 4_096 + 1 + 2 + 1);
     let answer = reader.correct(4_095, b'a', 1, 0);
-    assert_eq!(answer, Ok(Answer::End { named, cells }));
+    assert_eq!(answer, Ok(Answer::Success { end: whole, cells }));
     // The run from 0 to 4,095, and the byte there; that nothing follows the run at 4,095 is still known.
     let cells = 4_096 + 1;
     let answer = reader.correct(4_095, b'.', 1, 0);
@@ -369,8 +371,10 @@ fn opening_then_corrected() {
     assert_eq!(corrected, Ok(Answer::Failure { cells: 3 + 4 }));
     assert_eq!(reader.opening(b"66x."), Ok(None));
     assert_eq!(reader.opening(b"666-666."), Ok(Some(4)));
-    let refused = reader.opening(b"66-").map_err(|error| error.number());
-    assert_eq!((refused, reader.entry()), (Err(7), &b"666-666."[..]));
+    assert_eq!(reader.opening(b"66-"), Ok(Some(3)));
+    let refused = reader.opening(&[b'6'; 4_097]);
+    assert_eq!(refused.map_err(|error| error.number()), Err(6));
+    assert_eq!(reader.entry(), b"66-");
 }
 
 /// A further question may follow any answer: entry and table are those of the last one.
@@ -407,30 +411,23 @@ fn longest_asked_further() {
     let success = |end, cells| Ok(Answer::Success { end, cells });
     assert_eq!(reader.further(1, 2_000), success(4_095, 0));
     assert_eq!(reader.further(3, 0), success(0, 1));
-    // Behind the last byte there is none.
-    let named = Pair {
-        variable: 2,
-        position: 4_096,
-    };
-    let end = |cells| Ok(Answer::End { named, cells });
-    assert_eq!(reader.further(1, 4_096), end(2));
-    assert_eq!(reader.further(1, 4_096), end(0));
+    // Behind the last byte there is none: 2 fails, and 3 takes nothing.
+    assert_eq!(reader.further(1, 4_096), success(4_096, 3));
+    assert_eq!(reader.further(1, 4_096), success(4_096, 0));
 }
 
 /// Before the first answer the entry is empty, and the table blank: it is the question about the empty entry.
 #[test]
 fn further_before_the_first_answer() {
     let mut reader = reader(H);
-    let named = Pair {
-        variable: 2,
-        position: 0,
-    };
-    let end = |cells| Ok(Answer::End { named, cells });
-    assert_eq!(reader.further(1, 0), end(2));
-    assert_eq!(reader.further(1, 0), end(0));
-    assert_eq!(reader.further(6, 0), Ok(Answer::Failure { cells: 1 }));
-    let table = [4, 0, 4, 0, 0, 0, 0, 0, 0, 0, 1, 0];
+    let failure = |cells| Ok(Answer::Failure { cells });
+    // 2 and 4 ask for a byte where none is, and 6 fails anyhow.
+    assert_eq!(reader.further(1, 0), failure(5));
+    assert_eq!(reader.further(1, 0), failure(0));
+    assert_eq!(reader.further(6, 0), failure(0));
+    let table = [1, 1, 1, 1, 1, 1, 1, 1, 0, 0, 1, 0];
     assert_eq!((reader.entry(), reader.table()), (&b""[..], &table[..]));
+    assert_eq!(reader.further(5, 0), failure(1));
 }
 
 /// 8 and 9, in this order, before the first answer and after it; entry and table stay.
@@ -505,13 +502,13 @@ fn refused_entries_between() {
     assert!(reader.verdict(b"-6.").is_ok());
     let table = reader.table().to_vec();
     let (short, longer, long) = (b"6..", [b'6'; 100], [b'.'; 4_097]);
-    for (entry, of_verdict, of_question) in [(&short[..], 7, 8), (&longer, 7, 8), (&long, 6, 6)] {
-        let verdict = reader.verdict(entry).map_err(|error| error.number());
-        assert_eq!(verdict, Err(of_verdict));
-        let least = reader.opening(entry).map_err(|error| error.number());
-        assert_eq!(least, Err(of_verdict));
+    for (entry, number) in [(&short[..], 8), (&longer, 8), (&long, 6)] {
         let answer = reader.ask(entry, 7, 0).map_err(|error| error.number());
-        assert_eq!(answer, Err(of_question));
+        assert_eq!(answer, Err(number));
+        let verdict = reader.verdict(&long).map_err(|error| error.number());
+        assert_eq!(verdict, Err(6));
+        let least = reader.opening(&long).map_err(|error| error.number());
+        assert_eq!(least, Err(6));
         assert_eq!((reader.entry(), reader.table()), (&b"-6."[..], &table[..]));
         let answer = reader.further(3, 1);
         assert_eq!(answer, Ok(Answer::Success { end: 3, cells: 0 }));
@@ -568,22 +565,17 @@ fn refused_sheets() {
     );
 }
 
-/// A refused entry has no line: 6 and 7.
+/// An entry is refused for its length only, and has no line: those with the endmarker elsewhere or without it have no opening, and are judged.
 #[test]
 fn refused_entries() {
     let mut reader = reader(H);
-    let long = "the entry has over 4,096 bytes";
-    let unended = "the entry does not end with the sheet's endmarker, or has it earlier too";
-    for (entry, number, sentence) in [
-        (&[b'.'; 4_097][..], 6, long),
-        (b"", 7, unended),
-        (b"6", 7, unended),
-        (b"6..", 7, unended),
-        (b"6.\r", 7, unended),
-    ] {
-        let error = reader.verdict(entry).expect_err("it is refused");
-        assert_eq!(told(error), (number, None, sentence.to_string()));
-        assert_eq!(reader.opening(entry), Err(error));
+    let error = reader.verdict(&[b'.'; 4_097]).expect_err("it is refused");
+    let sentence = "the entry has over 4,096 bytes";
+    assert_eq!(told(error), (6, None, sentence.to_string()));
+    assert_eq!(reader.opening(&[b'.'; 4_097]), Err(error));
+    for entry in [&b""[..], b"6", b"6..", b"6.\r", &[b'6'; 4_096]] {
+        assert!(reader.verdict(entry).is_ok(), "{entry:?}");
+        assert_eq!(reader.opening(entry), Ok(None), "{entry:?}");
     }
 }
 
@@ -714,7 +706,6 @@ fn kind(answer: &Answer) -> String {
         Answer::Failure { .. } => "failure",
         Answer::Loop { .. } => "loop",
         Answer::Missing { .. } => "missing",
-        Answer::End { .. } => "end",
     };
     kind.to_string()
 }
@@ -777,10 +768,14 @@ impl<'a> Beside<'a> {
         let claim = self.reader.check(self.entry, &reading.bytes);
         let claim = claim.map_err(|error| error.number());
         assert_eq!(claim, claimed(reading.answer));
-        // The recognizer looks at each front of it.
+        // The recognizer looks at each front of it. One in ten lacks its last line.
         if (1..=100).contains(&reading.lines.len()) {
             let index = random.index(reading.bytes.len());
             reading.bytes[index] = random.pick(b" 0123456789\n");
+            if random.one_in(10) {
+                let last = recognizer::LINE * (reading.lines.len() - 1);
+                reading.bytes.truncate(last);
+            }
             let refused = check(self.reader, self.entry, &reading.bytes);
             met.count(format!(
                 "changed {}",
@@ -802,7 +797,7 @@ fn numbers(lines: &[Line]) -> Vec<recognizer::Line> {
     numbers.collect()
 }
 
-/// What the checker says of the reading of an answer: loop, missing and end have no lines.
+/// What the checker says of the reading of an answer: loop and missing have no lines.
 fn claimed(answer: Answer) -> Result<Claim, u32> {
     match answer {
         Answer::Success { end, .. } => Ok(Claim::Success { end }),
@@ -908,10 +903,10 @@ fn call_between(random: &mut Random, reader: &mut Reader, met: &mut Met) {
 
 /// Everything that corrections, further questions and the calls between them can say.
 #[rustfmt::skip]
-const POSSIBLE_OVER_KEPT: [&str; 22] = [
-    "correct success", "correct failure", "correct loop", "correct missing", "correct end", "correct refused 8", "correct refused 9", "correct refused 18",
-    "further success", "further failure", "further loop", "further missing", "further end", "further refused 8", "further refused 9",
-    "verdict answered", "verdict refused 7", "opening answered", "opening refused 7", "reading answered", "ask answered", "ask refused 6",
+const POSSIBLE_OVER_KEPT: [&str; 18] = [
+    "correct success", "correct failure", "correct loop", "correct missing", "correct refused 8", "correct refused 9", "correct refused 18",
+    "further success", "further failure", "further loop", "further missing", "further refused 8", "further refused 9",
+    "verdict answered", "opening answered", "reading answered", "ask answered", "ask refused 6",
 ];
 
 /// Corrections and further questions one after the other, with other calls between them.
@@ -941,12 +936,12 @@ fn corrections_and_further_questions() {
 
 /// Everything that the calls can say.
 #[rustfmt::skip]
-const POSSIBLE: [&str; 39] = [
+const POSSIBLE: [&str; 33] = [
     "new read", "new refused 1", "new refused 2", "new refused 3", "new refused 4", "new refused 5",
-    "verdict recognised", "verdict partial", "verdict failure", "verdict loop", "verdict missing", "verdict end", "verdict refused 6", "verdict refused 7",
-    "own cells recognised", "own cells partial", "own cells failure", "own cells loop", "own cells missing", "own cells end", "own cells refused 7",
-    "ask success", "ask failure", "ask loop", "ask missing", "ask end", "ask refused 6", "ask refused 8", "ask refused 9",
-    "reading success", "reading failure", "reading loop", "reading missing", "reading end", "reading refused 6",
+    "verdict recognised", "verdict partial", "verdict failure", "verdict loop", "verdict missing", "verdict refused 6",
+    "own cells recognised", "own cells partial", "own cells failure", "own cells loop", "own cells missing",
+    "ask success", "ask failure", "ask loop", "ask missing", "ask refused 6", "ask refused 8", "ask refused 9",
+    "reading success", "reading failure", "reading loop", "reading missing", "reading refused 6",
     "changed 0", "changed 12", "changed 13", "changed 14",
 ];
 

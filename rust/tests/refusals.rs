@@ -1,12 +1,13 @@
-//! Every refusal that verdict, question, further question and correction have, 1 to 10, under its conditions and in its order; nothing is changed by one.
+//! Every refusal that verdict, question, further question and correction have, 1 to 6 and 8 to 10, under its conditions and in its
+//! order; nothing is changed by one.
 //! The numbers of all refusals.
-use entryreader::{Answer, Code, Error, Refusal, lent};
+use entryreader::{Answer, Code, Error, Refusal, Verdict, lent};
 use std::collections::BTreeSet;
 
 const GOOD: &str =
     "    2    1   46    0    0\n    1    4    2    2    2\n    2    2   97    0    0\n";
 
-/// The verdict, or the refusal.
+/// The verdict, or the refusal. Neither 4 nor 107 comes from any call: there is no name for them.
 fn verdict(sheet: &[u8], entry: &[u8]) -> Result<Code, Refusal> {
     lent::verdict(sheet, entry).map_err(|error| error.refusal())
 }
@@ -146,17 +147,68 @@ fn six_long_entry() {
     question_refused(GOOD.as_bytes(), &[b'a'; 4097], 0, 9999, 0, 0, 6);
 }
 
+/// There is no 7: the entry may be empty, and the endmarker stand at its end, anywhere else, twice or nowhere. Whichever byte it is, the verdict is the
+/// same.
 #[test]
-fn seven_endmarker() {
-    for entry in ["", "a", "a.a", ".a", "..", "a.a."] {
-        let refused = Err(Refusal::Endmarker);
-        assert_eq!(verdict(GOOD.as_bytes(), entry.as_bytes()), refused);
+fn no_seven() {
+    for (entry, code) in [
+        ("", Code::Failure),
+        ("a", Code::Failure),
+        ("aa", Code::Recognised),
+        ("aa.", Code::Partial),
+        ("aa.a.", Code::Partial),
+        ("a.a", Code::Failure),
+        (".aa.", Code::Failure),
+        ("..", Code::Failure),
+    ] {
+        for endmarker in 0..=255 {
+            let sheet = with_line(1, &format!("    2    1{endmarker:>5}    0    0"));
+            let found = verdict(&sheet, entry.as_bytes());
+            assert_eq!(found, Ok(code), "{entry} {endmarker}");
+        }
     }
-    // 7 comes before 10.
-    assert_eq!(
-        verdict(GOOD.as_bytes(), &[b'a'; 4096]),
-        Err(Refusal::Endmarker)
-    );
+    // Nothing comes between 6 and 10.
+    assert_eq!(verdict(GOOD.as_bytes(), &[b'a'; 4096]), Err(Refusal::Room));
+}
+
+/// The longest entry, over slices that are long enough; with one byte more it is refused, and with none it is judged.
+#[test]
+fn lengths_of_entries() {
+    let (mut table, mut work) = (vec![7; 4 * 4_097], vec![7; 2 * 4_097]);
+    let mut judge = |length| {
+        let entry = vec![b'a'; length];
+        let found = lent::judge(GOOD.as_bytes(), &entry, &mut table, &mut work);
+        found.map_err(|error| error.number())
+    };
+    assert_eq!(judge(0), Ok(Verdict::Failure { cells: 2 }));
+    assert_eq!(judge(1), Ok(Verdict::Failure { cells: 3 }));
+    assert_eq!(judge(2), Ok(Verdict::Recognised { cells: 3 }));
+    assert_eq!(judge(4_096), Ok(Verdict::Partial { end: 2, cells: 3 }));
+    assert_eq!(judge(4_097), Err(6));
+}
+
+/// A table full of 4s: a further question is refused, and a correction where it retains a cell; a question blanks them, and so does a correction of the
+/// last byte where the place behind it holds none.
+#[test]
+fn table_of_fours() {
+    let (sheet, mut work) = (GOOD.as_bytes(), [9; 6]);
+    let mut table = [4; 12];
+    let further = lent::further(sheet, b"aa", 1, 0, &mut table, &mut work);
+    assert_eq!(further.map_err(|error| error.number()), Err(19));
+    for c in [0, 1] {
+        let correct = lent::correct(sheet, b"aa", b"aa", 1, 0, c, &mut table, &mut work);
+        assert_eq!(correct.map_err(|error| error.number()), Err(19), "{c}");
+    }
+    assert_eq!((table, work), ([4; 12], [9; 6]));
+    // Places 0 and 1 of both variables hold 4s; those behind the last byte are blank.
+    let mut table = [4, 4, 4, 4, 0, 0, 4, 4, 4, 4, 0, 0];
+    let correct = lent::correct(sheet, b"aa", b"aa", 1, 0, 1, &mut table, &mut work);
+    assert_eq!(correct, Ok(Answer::Success { end: 2, cells: 3 }));
+    assert_eq!(table, [7, 2, 0, 0, 0, 0, 6, 1, 7, 2, 0, 0]);
+    let mut table = [4; 12];
+    let question = lent::question(sheet, b"aa", 1, 0, &mut table, &mut work);
+    assert_eq!(question, Ok(Answer::Success { end: 2, cells: 3 }));
+    assert_eq!(table, [7, 2, 0, 0, 0, 0, 6, 1, 7, 2, 0, 0]);
 }
 
 #[test]
@@ -185,13 +237,13 @@ fn ten_room() {
     assert_eq!(verdict(GOOD.as_bytes(), &entry), Err(Refusal::Room));
 }
 
-/// Those from 1 to 21, each with a meaning of its own, and no others.
+/// Those from 1 to 21 without 7, each with a meaning of its own, and no others.
 #[test]
 fn numbers() {
     let numbers = (0..200).chain([u32::MAX]);
     let refusals: Vec<Refusal> = numbers.filter_map(Refusal::from_number).collect();
     let found = refusals.iter().map(|refusal| refusal.number());
-    assert!(found.eq(1..=21), "{refusals:?}");
+    assert!(found.eq((1..=6).chain(8..=21)), "{refusals:?}");
     let meanings = BTreeSet::from_iter(refusals.iter().map(|refusal| refusal.meaning()));
-    assert_eq!(meanings.len(), 21);
+    assert_eq!(meanings.len(), 20);
 }

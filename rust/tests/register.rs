@@ -64,14 +64,14 @@ fn register(name: &str, entries: &[u8]) -> (String, String, Option<i32>) {
     ran(command().args([sheet, entries]))
 }
 
-const SEVEN: &str = "the entry does not end with the sheet's endmarker, or has it earlier too";
 const SIX: &str = "the entry has over 4,096 bytes";
 
 /// Any bytes, empty lines, lines of 4,096 bytes and more, a carriage return; the last line has no line feed.
 fn every_kind() -> Vec<u8> {
     let longest = ["x".repeat(4_095), ".".to_string()].concat();
-    let mut entries = b"r.\np.\nx.\nl.\nm.\ne.\n\n\x00\xFF\xA1\xA0\xAD\\\x7F.\nr..\n".to_vec();
-    for line in [&longest, &format!("x{longest}"), &"r".repeat(70_000)] {
+    let mut entries = b"r.\np.\n\x00\xFF\xA1\xA0\xAD\\\x7F.\nl.\nm.\n".to_vec();
+    entries.extend(format!("{longest}\n\ne.\nr..\nx.\n").bytes());
+    for line in [format!("x{longest}"), "r".repeat(70_000)] {
         entries.extend(format!("{line}\n").bytes());
     }
     entries.extend(b"r.\r\n\nr\nr.");
@@ -85,16 +85,16 @@ fn lines_of_every_kind() -> String {
 3 failure
 4 loop 9 at 1
 5 missing 12 at 1
-6 end 3 at 2
-7 refused 7: {SEVEN}
+6 failure
+7 failure
 8 failure
-9 refused 7: {SEVEN}
+9 partial 2
 10 failure
 11 refused 6: {SIX}
 12 refused 6: {SIX}
-13 refused 7: {SEVEN}
-14 refused 7: {SEVEN}
-15 refused 7: {SEVEN}
+13 partial 2
+14 failure
+15 failure
 16 recognised 2
 "
     )
@@ -105,25 +105,21 @@ fn summary_of_every_kind() -> String {
     format!(
         "entries: 16
 recognised: 2
-partial: 1
+partial: 3
   line 2: \"p.\"
-failure: 3
-  line 3: \"x.\"
-  line 8: \"\\x00ÿ¡\\xA0\\xAD\\\\\\x7F.\"
-  line 10: \"{x}\"...
+  line 9: \"r..\"
+  line 13: \"r.\\x0D\"
+failure: 7
+  line 3: \"\\x00ÿ¡\\xA0\\xAD\\\\\\x7F.\"
+  line 6: \"{x}\"...
+  line 7: \"\"
 loop: 1
   line 4: \"l.\"
 missing: 1
   line 5: \"m.\"
-end: 1
-  line 6: \"e.\"
 refused 6 ({SIX}): 2
   line 11: \"{x}\"...
   line 12: \"{r}\"...
-refused 7 ({SEVEN}): 5
-  line 7: \"\"
-  line 9: \"r..\"
-  line 13: \"r.\\x0D\"
 "
     )
 }
@@ -170,22 +166,25 @@ fn all_recognised() {
     ] {
         let (printed, errors, status) = register("recognised", entries);
         let expected = format!(
-            "{lines}\nentries: {count}\nrecognised: {count}\npartial: 0\nfailure: 0\nloop: 0\nmissing: 0\nend: 0
-refused 6 ({SIX}): 0\nrefused 7 ({SEVEN}): 0\n"
+            "{lines}\nentries: {count}\nrecognised: {count}\npartial: 0\nfailure: 0\nloop: 0\nmissing: 0
+refused 6 ({SIX}): 0\n"
         );
         assert_eq!(printed, expected);
         assert_eq!((&errors[..], status), ("", Some(0)));
     }
 }
 
-/// The sentence about line ends stands where most entries that are refused with 7 end with byte 13.
+/// The sentence about line ends stands where most entries that are not recognised end with byte 13, whatever is said of them.
 #[test]
 fn line_ends() {
     let sentence = "The file has CR LF line ends, and byte 13 is read as part of the entry.\n";
     for (entries, stands) in [
         ("r.\r\np.\r\n", true),
         ("r.\r\nr.\np.\r\nx\n", true),
+        ("x\r\nl\r\nm\r\nx\nx\n", true),
+        ("r\r\n\n\r\n", true),
         ("r.\r\nx\n", false),
+        ("r.\nx\nx\r\n\n", false),
         ("r.\n", false),
     ] {
         let (printed, _, _) = register("line_ends", entries.as_bytes());
@@ -194,6 +193,14 @@ fn line_ends() {
             stands,
             "{entries:?}: {printed}"
         );
+    }
+    // On a sheet that asks for byte 13 in place of the full stop all is recognised that ends with it.
+    let sheet = file("returns.sheet", SHEET.replace("3    2   46", "3    2   13"));
+    for (entries, status) in [("r\r\nr\r\n", 0), ("r\r\nr\r\nx\n", 1)] {
+        let entries = file("returns.entries", entries);
+        let (printed, _, found) = ran(command().args([&sheet, &entries]));
+        assert_eq!(found, Some(status), "{printed}");
+        assert!(!printed.contains(sentence), "{printed}");
     }
 }
 
@@ -332,22 +339,16 @@ fn many_entries() {
     let after = running.peak();
     let printed = running.end();
     assert!(after < before + 400, "{before} kB, then {after} kB");
-    assert!(
-        printed.contains("\n100000 refused 7: "),
-        "{}",
-        printed.len()
-    );
+    assert!(printed.contains("\n100000 failure\n"), "{}", printed.len());
     let (lines, summary) = printed.split_once("\n\n").expect("a summary follows");
     assert_eq!(lines.lines().count(), 100_000);
     for count in [
         "entries: 100000\n",
         "\nrecognised: 20000\n",
-        "\npartial: 10000\n  line 3: \"p.\"\n  line 13: \"p.\"\n  line 23: \"p.\"\nfailure: 10000\n",
-        "\nloop: 10000\n",
+        "\npartial: 10000\n  line 3: \"p.\"\n  line 13: \"p.\"\n  line 23: \"p.\"\nfailure: 50000\n",
+        "\n  line 4: \"x.\"\n  line 7: \"e.\"\n  line 8: \"r\"\nloop: 10000\n",
         "\nmissing: 10000\n",
-        "\nend: 10000\n",
         "refused 6 (the entry has over 4,096 bytes): 0\n",
-        "or has it earlier too): 30000\n",
     ] {
         assert!(summary.contains(count), "{count}: {summary}");
     }

@@ -8,6 +8,14 @@ use marked_cases::{G, H, I, J};
 /// The reading of case a.
 const READING: &[u8] = marked_cases::READING.as_bytes();
 
+/// That of case e, by hand: 5 fails at 2, where the entry ends, and so do 3 and 1.
+const READING_OF_E: &[u8] = b"       2       0       0       1       0       0
+       4       1       0       2       0       0
+       5       2       1       2       0       0
+       3       1       1       1       2       3
+       1       0       1       0       1       4
+";
+
 const ASKED: Pair = Pair {
     variable: 1,
     position: 0,
@@ -35,9 +43,11 @@ fn machine() {
     assert_eq!(run(H, b"-6.", 3, 9), [8, 3, 9]);
     assert_eq!(run(H, b"-6.", 3, 8), [test_calls::SPENT, 0, 8]);
     assert_eq!(run(H, b"-6.", 2, 9), [test_calls::NO_FRAME, 0, 3]);
-    // d, e, f.
+    // d, e, f; e has k 5 and h 3, as a.
     assert_eq!(run(H, b"6.", 100, 100)[..2], [7, 2]);
-    assert_eq!(run(H, b"-6", 100, 100)[..2], [4, 0]);
+    assert_eq!(run(H, b"-6", 3, 9), [1, 0, 9]);
+    assert_eq!(run(H, b"-6", 3, 8), [test_calls::SPENT, 0, 8]);
+    assert_eq!(run(H, b"-6", 2, 9), [test_calls::NO_FRAME, 0, 3]);
     assert_eq!(run(H, b"x", 100, 100)[..2], [1, 0]);
     // g: a push for each move until there is no room.
     assert_eq!(run(G, b"", 100, 1000), [test_calls::NO_FRAME, 0, 99]);
@@ -75,12 +85,13 @@ fn writer() {
     assert!(output[245..].iter().all(|byte| *byte == 7));
 
     assert_eq!(write(H, b"x", 12).0, [1, 0, 0, 5, 5]);
-    for (sheet, entry, cells, expected) in [
-        (H, &b"-6"[..], 18, [4, 5, 2, 5, 0]),
-        (G, b"", 1, [2, 1, 0, 1, 0]),
-        (J, b"", 2, [3, 2, 0, 2, 0]),
-    ] {
-        let (answer, output) = write(sheet, entry, cells);
+    let (answer, output) = write(H, b"-6", 18);
+    assert_eq!(answer, [1, 0, 0, 5, 5]);
+    assert_eq!(output[..245], *READING_OF_E);
+    assert!(output[245..].iter().all(|byte| *byte == 7));
+
+    for (sheet, cells, expected) in [(G, 1, [2, 1, 0, 1, 0]), (J, 2, [3, 2, 0, 2, 0])] {
+        let (answer, output) = write(sheet, b"", cells);
         assert_eq!(answer, expected);
         assert!(output.iter().all(|byte| *byte == 7));
     }
@@ -130,6 +141,22 @@ fn checker() {
     // A failure, with its start as the end.
     let failure = b"       5       0       1       0       0       0\n";
     assert_eq!(check(5, 0, failure), Ok([1, 0]));
+}
+
+/// Case e's reading passes; one that claims the byte behind the entry does not, and neither does one of a longer entry.
+#[test]
+fn checker_at_the_end() {
+    let check = |reading: &[u8]| {
+        let mut answer = [9; 2];
+        let code = test_calls::check(H.as_bytes(), b"-6", ASKED, reading, &mut answer);
+        (code, answer)
+    };
+    assert_eq!(check(READING_OF_E), (0, [1, 0]));
+    let mut claimed = READING_OF_E.to_vec();
+    // The third line: success, ending at 3.
+    [claimed[2 * 49 + 23], claimed[2 * 49 + 31]] = *b"03";
+    assert_eq!(check(&claimed), (113, [9; 2]));
+    assert_eq!(check(READING), (113, [9; 2]));
 }
 
 /// The reading with one byte changed.

@@ -119,7 +119,7 @@ unsafe fn leaf(word: u32, entry: &[u8], position: u32) -> Cell {
     let kind = word >> 24;
     if kind == 3 || kind == 4 {
         if position as usize >= entry.len() {
-            return [4, 0];
+            return [1, position + 1];
         }
         // SAFETY: the position is below the length.
         let byte = unsafe { *entry.get_unchecked(position as usize) };
@@ -163,8 +163,8 @@ macro_rules! look_up {
             let settled = leaf(rule, entry, position);
             *table.get_unchecked_mut(index) = settled;
             outcome = settled[0];
-            if outcome == 3 || outcome == 4 {
-                break $walk (outcome, (variable + 1, position));
+            if outcome == 3 {
+                break $walk (3, (variable + 1, position));
             }
         }
         if outcome == OPEN {
@@ -266,7 +266,7 @@ pub fn question(
     // SAFETY: variables are below V, positions at most the entry's length, and open cells distinct, so that no more than V times (n + 1) callers are
     // noted.
     let end = unsafe { walk(&words, entry, asked, table, work) };
-    if (2..=4).contains(&end.code) {
+    if end.code == 2 || end.code == 3 {
         table[cell(end.top)][0] = end.code;
         for caller in &work[..end.depth] {
             table[cell((caller >> 13, caller & 8191))][0] = end.code;

@@ -32,7 +32,7 @@ pub fn run(
         match (stage, rule) {
             (0, Rule::Calls(b, _, _)) => pushed = Some((1, b, position)),
             (0, rule) => match plain::leaf(rule, entry, position) {
-                stop @ 3..=4 => return [stop, 0, moves],
+                3 => return [3, 0, moves],
                 1 => next_flag = false,
                 code => (next_flag, next_place) = (true, code - 5),
             },

@@ -2,7 +2,7 @@
 //!
 //! It prints the tables of docs/BENCHMARKS.md. valgrind, lua5.4, lua-lpeg and peg are Debian's packages; where valgrind is absent, its columns stay
 //! empty. With `--calls SUBJECT COUNT` it only makes the calls of one subject, which is what valgrind counts; with `--corrections`, `--openings`,
-//! `--further` or `--archive` it prints the table of corrections, of openings, of further questions or of stored tables only.
+//! `--further`, `--archive` or `--verdicts` it prints the table of corrections, of openings, of further questions, of stored tables or of verdicts only.
 mod archive;
 mod correction;
 mod fastest;
@@ -15,6 +15,7 @@ mod reading;
 mod sheets;
 mod society;
 mod timing;
+mod verdict;
 
 use entryreader::{Pair, lent, test_calls};
 use sheets::Question;
@@ -550,11 +551,12 @@ fn only_calls(subject: &str, calls: usize) {
 }
 
 /// The tables that can be asked for by themselves.
-const ALONE: [(&str, fn()); 4] = [
+const ALONE: [(&str, fn()); 5] = [
     ("--corrections", correction::table),
     ("--openings", opening::table),
     ("--further", further::table),
     ("--archive", archive::table),
+    ("--verdicts", verdict::table),
 ];
 
 fn main() {

@@ -92,7 +92,7 @@ type Cell = [u32; 2];
 /// The outcome of a pair that is asked and not decided yet.
 const OPEN: u32 = u32::MAX;
 
-/// A rule's outcome where it calls nothing: a cell's code, 3 and 4 for missing and end.
+/// A rule's outcome where it calls nothing: a cell's code, 3 for missing. A byte or a class that is asked for at the entry's end fails.
 pub fn leaf(rule: Rule, entry: &[u8], position: u32) -> u32 {
     let fits = |wanted: bool| if wanted { 6 + position } else { 1 };
     match (rule, entry.get(position as usize)) {
@@ -100,7 +100,7 @@ pub fn leaf(rule: Rule, entry: &[u8], position: u32) -> u32 {
         (Rule::Never, _) => 1,
         (Rule::Byte(wanted), Some(byte)) => fits(*byte == wanted),
         (Rule::Class(wanted), Some(byte)) => fits(class(*byte) == wanted),
-        (Rule::Byte(_) | Rule::Class(_), None) => 4,
+        (Rule::Byte(_) | Rule::Class(_), None) => 1,
         (Rule::Absent | Rule::Calls(..), _) => 3,
     }
 }
@@ -176,7 +176,7 @@ fn walk(
                 (_, cell) => cell,
             },
             rule => match leaf(rule, entry, top.1) {
-                stop @ 3..=4 => return (stop, top, top),
+                3 => return (3, top, top),
                 code => [code, leaf_reach(rule, top.1)],
             },
         };
@@ -207,7 +207,7 @@ pub fn question(
         count: 0,
     };
     let (code, named, mut top) = walk(&sheet, entry, asked, &mut table, &mut work[..size]);
-    if (2..=4).contains(&code) {
+    if code == 2 || code == 3 {
         table.set(top, [code, 0]);
         while top != asked {
             top = caller(work[table.index(top)]);

@@ -121,12 +121,13 @@ pub fn wide(variables: u32, n: usize) -> Question {
     }
 }
 
-/// So many letters less one, and a full stop, behind which alone there is a loop: few of the variables, 5 or more, are asked for at a position.
+/// So many letters less one, and a full stop, behind which alone there is a loop: few of the variables, 5 or more, are asked for at a
+/// position. Without the full stop the entry fails.
 pub fn last_byte(variables: usize, n: usize) -> Question {
     let mut rules = vec![
         [4, 2, 1, 3],
         [2, 97, 0, 0],
-        [4, 4, 5, 5],
+        [4, 4, 5, 2],
         [2, 46, 0, 0],
         [4, 5, 5, 5],
     ];
@@ -147,7 +148,7 @@ pub fn last_byte_of_choices(n: usize) -> Question {
         .collect();
     rules.extend((1..=choices).map(|i| [2, if i == choices { 97 } else { FIRST + i }, 0, 0]));
     rules.extend([
-        [4, stop, round, round],
+        [4, stop, round, 2 * choices],
         [2, 46, 0, 0],
         [4, round, round, round],
     ]);

@@ -201,7 +201,7 @@ pub fn long_lines(most: usize) -> Question {
 }
 
 /// Shorter lines, `baptised 1843, Mary Ann Hobbs`, with a remark in brackets or none. A word of a remark may have no letters, and words come as often as
-/// they come: where the letters end, they come back to themselves.
+/// they come: where the letters end, they come back to themselves. The entry's end is such a place, so that the bracket that opens a remark is enough.
 fn remarks_sheet() -> Vec<u8> {
     let mut rules = Rules::new();
     let [digit, capital, small, blank] = [1, 2, 3, 4].map(|class| rules.class(class));

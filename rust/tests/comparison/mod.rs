@@ -10,9 +10,9 @@ use crate::tables;
 use entryreader::{Answer, Claim, Pair, lent as exported, test_calls};
 use std::collections::{BTreeMap, BTreeSet};
 
-const OUTCOMES: &[&str] = &["success", "failure", "loop", "missing", "end"];
+const OUTCOMES: &[&str] = &["success", "failure", "loop", "missing"];
 
-const VERDICTS: &[&str] = &["recognised", "partial", "failure", "loop", "missing", "end"];
+const VERDICTS: &[&str] = &["recognised", "partial", "failure", "loop", "missing"];
 
 /// What each call can say, and the numbers of its refusals; and how many cells a question decides.
 const ANSWERS: [(&str, &[&str], &[u32]); 11] = [
@@ -24,16 +24,16 @@ const ANSWERS: [(&str, &[&str], &[u32]); 11] = [
         OUTCOMES,
         &[1, 2, 3, 4, 5, 6, 8, 9, 10, 18, 19, 21],
     ),
-    ("verdict", VERDICTS, &[1, 2, 3, 4, 5, 6, 7, 10]),
-    ("judge", VERDICTS, &[1, 2, 3, 4, 5, 6, 7, 10]),
+    ("verdict", VERDICTS, &[1, 2, 3, 4, 5, 6, 10]),
+    ("judge", VERDICTS, &[1, 2, 3, 4, 5, 6, 10]),
     (
         "opening",
         &["none", "0", "1", "2 or more"],
-        &[1, 2, 3, 4, 5, 6, 7, 10],
+        &[1, 2, 3, 4, 5, 6, 10],
     ),
     (
         "run",
-        &["success", "failure", "missing", "end", "spent", "no frame"],
+        &["success", "failure", "missing", "spent", "no frame"],
         &[1, 2, 3, 4, 5, 6, 8, 9],
     ),
     ("write", OUTCOMES, &[1, 2, 3, 4, 5, 6, 8, 9, 10, 11]),
@@ -51,7 +51,6 @@ fn name(outcome: Outcome) -> String {
         Outcome::Failure => "failure",
         Outcome::Loop => "loop",
         Outcome::Missing => "missing",
-        Outcome::End => "end",
     };
     name.to_string()
 }
@@ -257,8 +256,9 @@ impl Comparison {
         as_program(Call::Question, &[], case, table, work, expected);
     }
 
-    /// A table of so many numbers: what a question about another pair leaves of a blank one, as the recognizer says, sometimes with a cell at fault.
-    fn kept_table(&mut self, case: &Case, numbers: usize) -> Vec<u32> {
+    /// A table of so many numbers: what a question about another pair leaves of a blank one, as the recognizer says, sometimes with one of these outcomes
+    /// or one over 5 + n in a cell.
+    fn kept_table(&mut self, case: &Case, numbers: usize, faults: &[u32]) -> Vec<u32> {
         let asked = Pair {
             variable: 1 + self.random.below(4) as u32,
             position: self.random.index(case.entry.len() + 1) as u32,
@@ -272,7 +272,8 @@ impl Comparison {
         if self.random.one_in(8) {
             let at = 2 * self.random.index(table.len() / 2);
             let over = 6 + case.entry.len() as u32;
-            table[at] = self.random.pick(&[over, 1 << 31, u32::MAX]);
+            let faults = [faults, &[over, 1 << 31, u32::MAX]].concat();
+            table[at] = self.random.pick(&faults);
         }
         table.resize(numbers, u32::MAX);
         table
@@ -280,18 +281,19 @@ impl Comparison {
 
     /// The further question over such a table.
     pub fn further(&mut self, case: &Case, table: usize, work: usize) {
-        let before = self.kept_table(case, table);
+        let before = self.kept_table(case, table, &[4]);
         self.over_kept(Call::Further, &[], case, before, work);
     }
 
-    /// A correction of some old entry over such a table of that.
+    /// A correction of some old entry over such a table of that. No 4: where one is blanked, a cell that stays may have been decided by it, and the table is
+    /// no kept one.
     pub fn correction(&mut self, case: &Case, table: usize, work: usize) {
         let (old, c) = questions::old_entry(&mut self.random, &case.entry);
         let kept = Case {
             entry: old,
             ..case.clone()
         };
-        let before = self.kept_table(&kept, table);
+        let before = self.kept_table(&kept, table, &[]);
         let call = Call::Correction { c };
         self.over_kept(call, &kept.entry, case, before, work);
     }

@@ -8,7 +8,6 @@ pub enum Outcome {
     Failure,
     Loop,
     Missing,
-    End,
 }
 
 pub enum Item {
@@ -199,8 +198,9 @@ impl<'a> Direct<'a> {
         match item {
             Item::Letter(letter) => self.letter(*letter, position),
             Item::Fails => Outcome::Failure,
-            Item::Byte(_) if position == self.entry.len() => Outcome::End,
-            Item::Byte(byte) if self.entry[position] == *byte => Outcome::Success(position + 1),
+            Item::Byte(byte) if self.entry.get(position) == Some(byte) => {
+                Outcome::Success(position + 1)
+            }
             Item::Byte(_) => Outcome::Failure,
             Item::Round(choice) => self.choice(choice, position),
             Item::Square(choice) => match self.choice(choice, position) {

@@ -57,40 +57,135 @@ fn d_recognised() {
 }
 
 #[test]
-fn e_end() {
-    let expected = r#"refused (7): the entry does not end with the sheet's endmarker, or has it earlier too
+fn e_failure() {
+    let expected = r#"failure: the entry does not fit the sheet
 
     -6
-     ^ the entry ends with byte 54 "6", not with the endmarker, byte 46 "."
+      ^ the entry ends at 2, where a byte was expected: byte 46 "."
 
-Asked all the same, without the endmarker's rule:
-
-end: 5 asks for a byte at 2, where the entry ends
-
-    -6
-      ^ 5 at 2 asks for a byte
-
-1 at 0: 2, then 3; or, where 2 fails, 3
-  2 at 0 succeeds, and takes "-", 0 to 1
-  so 1 at 0 calls 3 at 1
-3 at 1: 4, then 5; or, where 4 fails, 6
-  4 at 1 succeeds, and takes "6", 1 to 2
-  so 3 at 1 calls 5 at 2
-5 at 2 asks for byte 46 ".", and the entry ends there
+1 at 0: 2, then 3; or, where 2 fails, 3. Failed
+  2 at 0: byte 45 "-". Took "-", 0 to 1
+  3 at 1: 4, then 5; or, where 4 fails, 6. Failed
+    4 at 1: class 1, a digit. Took "6", 1 to 2
+    5 at 2: byte 46 ".". Failed: the entry ends here
 "#;
     assert_eq!(explain(H, "-6", 1), expected);
 }
 
+/// A byte that is another one, and further right a byte that is not there, or is another one too: the latter is told.
+#[test]
+fn rightmost_expected() {
+    for (entry, mark) in [
+        (
+            "6",
+            "    6\n     ^ the entry ends at 1, where a byte was expected: byte 46 \".\"\n",
+        ),
+        (
+            "6x",
+            "    6x\n     ^ at 1 another byte was expected: byte 46 \".\"\n",
+        ),
+    ] {
+        let printed = explain(H, entry, 1);
+        assert!(printed.contains(mark), "{printed}");
+        assert!(
+            printed.contains("\n  2 at 0: byte 45 \"-\". Failed\n"),
+            "{printed}"
+        );
+    }
+}
+
+/// All that was expected where the entry ends is told.
+#[test]
+fn several_expected_at_the_end() {
+    let expected = r#"failure: the entry does not fit the sheet
+
+    -
+     ^ the entry ends at 1, where a byte was expected: class 1, a digit
+
+1 at 0: 2, then 3; or, where 2 fails, 3. Failed
+  2 at 0: byte 45 "-". Took "-", 0 to 1
+  3 at 1: 4, then 5; or, where 4 fails, 6. Failed
+    4 at 1: class 1, a digit. Failed: the entry ends here
+    6 at 1: always fails. Failed
+"#;
+    assert_eq!(explain(H, "-", 1), expected);
+    // An a, and then a b or a c; or a b.
+    let lines = "    1    4    2    3    5
+    2    2   97    0    0
+    3    4    5    4    6
+    4    0    0    0    0
+    5    2   98    0    0
+    6    2   99    0    0
+";
+    let expected = r#"failure: the entry does not fit the sheet
+
+    a
+     ^ the entry ends at 1, where a byte was expected: byte 98 "b"; or byte 99 "c"
+
+1 at 0: 2, then 3; or, where 2 fails, 5. Failed
+  2 at 0: byte 97 "a". Took "a", 0 to 1
+  3 at 1: 5, then 4; or, where 5 fails, 6. Failed
+    5 at 1: byte 98 "b". Failed: the entry ends here
+    6 at 1: byte 99 "c". Failed: the entry ends here
+"#;
+    assert_eq!(explain(sheet(6, lines), "a", 1), expected);
+    // Of an x the entry's end is not what is wrong.
+    let expected = "    x\n    ^ at 0 another byte was expected: ";
+    assert!(explain(sheet(6, lines), "x", 1).contains(expected));
+}
+
+/// The entry's end may be looked at and the whole entry taken.
+#[test]
+fn recognised_up_to_the_end() {
+    let expected = r#"recognised: the reading takes the whole entry, 1 of 1 bytes
+
+    a
+     ^ ends at 1
+
+1 at 0: 2, then 1; or, where 2 fails, 3. Took "a", 0 to 1
+  2 at 0: byte 97 "a". Took "a", 0 to 1
+  1 at 1: 2, then 1; or, where 2 fails, 3. Took nothing
+    2 at 1: byte 97 "a". Failed: the entry ends here
+    3 at 1: always succeeds. Took nothing
+"#;
+    assert_eq!(explain(letters(), "a", 0), expected);
+}
+
+#[test]
+fn empty_entries() {
+    let expected = r#"failure: the entry does not fit the sheet
+
+The entry is empty, and a byte was expected: byte 45 "-"; or class 1, a digit
+
+1 at 0: 2, then 3; or, where 2 fails, 3. Failed
+  2 at 0: byte 45 "-". Failed: the entry ends here
+  3 at 0: 4, then 5; or, where 4 fails, 6. Failed
+    4 at 0: class 1, a digit. Failed: the entry ends here
+    6 at 0: always fails. Failed
+"#;
+    assert_eq!(explain(H, "", 1), expected);
+    let expected = r#"recognised: the reading takes the whole entry, 0 of 0 bytes
+
+The entry is empty.
+
+1 at 0: 2, then 1; or, where 2 fails, 3. Took nothing
+  2 at 0: byte 97 "a". Failed: the entry ends here
+  3 at 0: always succeeds. Took nothing
+"#;
+    assert_eq!(explain(letters(), "", 0), expected);
+    let expected = "failure: the entry does not fit the sheet
+
+The entry is empty, and no byte is at fault: a rule that always fails was met
+
+1 at 0: always fails. Failed
+";
+    let fails = sheet(1, "    1    1    0    0    0\n");
+    assert_eq!(explain(fails, "", 1), expected);
+}
+
 #[test]
 fn f_failure() {
-    let expected = r#"refused (7): the entry does not end with the sheet's endmarker, or has it earlier too
-
-    x
-    ^ the entry ends with byte 120 "x", not with the endmarker, byte 46 "."
-
-Asked all the same, without the endmarker's rule:
-
-failure: the entry does not fit the sheet
+    let expected = r#"failure: the entry does not fit the sheet
 
     x
     ^ at 0 another byte was expected: byte 45 "-"; or class 1, a digit
@@ -104,18 +199,11 @@ failure: the entry does not fit the sheet
     assert_eq!(explain(H, "x", 1), expected);
 }
 
-/// What stands before the answer about an empty entry.
-const EMPTY: &str = r#"refused (7): the entry does not end with the sheet's endmarker, or has it earlier too
-
-The entry is empty: not even the endmarker, byte 46 ".", is there.
-
-Asked all the same, without the endmarker's rule:
-
-"#;
-
 #[test]
 fn g_loop() {
     let expected = r#"loop: 1 at 0 calls 1 at 0 again, having taken no byte
+
+The entry is empty.
 
 1 at 0: 1, then 1; or, where 1 fails, 1
   1 at 0 calls 1 at 0 again, having taken no byte
@@ -123,12 +211,14 @@ fn g_loop() {
 One of the rules of this round must take a byte before it comes back to 1 at 0.
 "#;
     let sheet = sheet(1, "    1    4    1    1    1\n");
-    assert_eq!(explain(sheet, "", 1), format!("{EMPTY}{expected}"));
+    assert_eq!(explain(sheet, "", 1), expected);
 }
 
 #[test]
 fn h_loop() {
     let expected = r#"loop: 1 at 0 calls 1 at 0 again, having taken no byte
+
+The entry is empty.
 
 1 at 0: 2, then 1; or, where 2 fails, 3
   2 at 0 succeeds, and takes nothing
@@ -137,10 +227,7 @@ fn h_loop() {
 One of the rules of this round must take a byte before it comes back to 1 at 0.
 "#;
     let lines = "    1    4    2    1    3\n    2    0    0    0    0\n    3    1    0    0    0\n";
-    assert_eq!(
-        explain(sheet(3, lines), "", 1),
-        format!("{EMPTY}{expected}")
-    );
+    assert_eq!(explain(sheet(3, lines), "", 1), expected);
 }
 
 #[test]
@@ -165,18 +252,20 @@ fn i_partial() {
 fn j_missing() {
     let expected = r#"missing: 2 has no rule, and is asked for at 0
 
+The entry is empty.
+
 1 at 0: 2, then 2; or, where 2 fails, 2
   1 at 0 calls 2 at 0
 2 at 0 has no rule: the sheet has no line for 2
 "#;
     let sheet = sheet(2, "    1    4    2    2    2\n");
-    assert_eq!(explain(sheet, "", 1), format!("{EMPTY}{expected}"));
+    assert_eq!(explain(sheet, "", 1), expected);
 }
 
 /// 1 takes the a; then 2 fails, so 3 is called, which calls 4, which calls 3 again.
 #[test]
 fn a_round_behind_the_question() {
-    let lines = "    1    4    5    2    2
+    let lines = "    1    4    5    2    6
     2    4    6    1    3
     3    4    4    5    5
     4    4    3    5    5
@@ -193,7 +282,7 @@ The first of 2 bytes is enough: it loops too, and the empty entry does not.
     a.
     ^ the first byte loops already
 
-1 at 0: 5, then 2; or, where 5 fails, 2
+1 at 0: 5, then 2; or, where 5 fails, 6
   5 at 0 succeeds, and takes "a", 0 to 1
   so 1 at 0 calls 2 at 1
 2 at 1: 6, then 1; or, where 6 fails, 3
@@ -232,20 +321,10 @@ fn rounds_in_a_sentence() {
     assert_eq!(first(5), five);
 }
 
-/// The endmarker at two places before the end, and another byte last.
+/// The endmarker at two places before the end, and another byte last: it is a byte like others.
 #[test]
-fn endmarker_earlier() {
-    let expected = r#"refused (7): the entry does not end with the sheet's endmarker, or has it earlier too
-
-    6.6.x
-     ^ at 1 the endmarker, byte 46 ".", stands before the entry's end
-
-    6.6.x
-        ^ the entry ends with byte 120 "x", not with the endmarker, byte 46 "."
-
-Asked all the same, without the endmarker's rule:
-
-success: the reading takes 2 of 5 bytes
+fn endmarker_anywhere() {
+    let expected = r#"partial: the reading takes 2 of 5 bytes
 
     6.6.x
       ^ ends at 2
@@ -257,7 +336,7 @@ success: the reading takes 2 of 5 bytes
 fn long_entry() {
     let expected = "refused (6): the entry has over 4,096 bytes\n\nIt has 4097 bytes.\n";
     assert_eq!(explain(H, [b'.'; 4097], 1), expected);
-    assert!(explain(H, [b'.'; 4096], 1).starts_with("refused (7): "));
+    assert!(explain(H, [b'.'; 4096], 1).starts_with("failure: "));
 }
 
 /// A pair that is called a second time is not explained again: 1 calls 2 twice at 0, for 3 fails.

@@ -63,7 +63,7 @@ fn no_options() {
     starts(&[SHEET, b"-6."], 0, RECOGNISED);
     starts(&[b"--", SHEET, b"-6."], 0, RECOGNISED);
     starts(&[SHEET, b"--", b"--6."], 1, "failure: ");
-    starts(&[SHEET, b"--", b"--help"], 1, "refused (7): ");
+    starts(&[SHEET, b"--", b"--help"], 1, "failure: ");
 }
 
 #[test]
@@ -86,10 +86,12 @@ fn entry_in_a_file() {
         printed(&[sheet.as_bytes(), b"/dev/stdin", b"--file"], entry, status)
     };
     assert!(from_file(b"-6.", 0).starts_with(RECOGNISED));
-    let line_feed = r#"    -6.\x0A
-       ^ the entry ends with byte 10 "\x0A", not with the endmarker, byte 46 "."
-"#;
-    assert!(from_file(b"-6.\n", 1).contains(line_feed));
+    let line_feed = r"partial: the reading takes 3 of 4 bytes
+
+    -6.\x0A
+       ^ ends at 3
+";
+    assert!(from_file(b"-6.\n", 1).starts_with(line_feed));
     assert!(from_file(b"\x00\xFF.", 1).contains("    \\x00ÿ.\n"));
     fs::remove_file(sheet).expect("it was written");
 }

@@ -94,9 +94,8 @@ fn crosses_of_f() {
     let drawing = draw("f.svg", H, b"x", 1);
     assert_eq!(elements(&drawing, "rect", "failed").len(), 6);
     assert_eq!(elements(&drawing, "path", "failed").len(), 6);
-    let refused =
-        "refused (7): the entry does not end with the sheet's endmarker, or has it earlier too";
-    assert!(texts(&drawing, "").contains(&refused));
+    let mark = "at 0 another byte was expected: byte 45 \"-\"; or class 1, a digit";
+    assert!(texts(&drawing, "").contains(&mark));
 }
 
 /// 1 calls 2, which calls 1: an arrow down, and an arrow back to the first row.
@@ -142,7 +141,7 @@ fn bar_of_an_opening() {
     let index = |element: &str| drawing.iter().position(|line| line == element);
     assert!(index(bars[0]) < index(bytes[0]));
     let sentence = "The first 2 of 4 bytes are enough: they loop too, and no fewer do.";
-    let advice = "One of the rules of this round must take a byte before it comes back to 3 at 1.";
+    let advice = "One of the rules of this round must take a byte before it comes back to 7 at 2.";
     assert!(texts(&drawing, "").ends_with(&[sentence, advice]));
 }
 
@@ -161,20 +160,21 @@ fn bars_of_no_byte_and_of_all() {
     assert_eq!(numbers(bars[0], ["width"]), [18 * 3]);
 }
 
-/// Without a verdict, or with another, nothing is said of an opening.
+/// With another verdict, or without bytes, nothing is said of an opening.
 #[test]
 fn no_bar_without_an_opening() {
-    for (sheet, entry, status) in [(AT_ONCE, &b"a"[..], 1), (H, b"-6.", 0), (H, b"x.", 1)] {
+    for (sheet, entry, status) in [(AT_ONCE, &b""[..], 1), (H, b"-6.", 0), (H, b"x.", 1)] {
         let drawing = draw("no-opening.svg", sheet, entry, status);
         assert!(texts(&drawing, "opening").is_empty());
         assert!(elements(&drawing, "rect", "opening").is_empty());
     }
 }
 
-/// The chain of case e: two pairs wait, the third is marked at 2, in the same row as its label.
+/// Sheet H without its last two lines, so that 5 has no rule: two pairs wait, the third is marked at 2, in the same row as its label.
 #[test]
-fn chain_of_e() {
-    let drawing = draw("e.svg", H, b"-6", 1);
+fn chain_to_a_missing_rule() {
+    let sheet = H.lines().take(5).map(|line| format!("{line}\n"));
+    let drawing = draw("chain.svg", &sheet.collect::<String>(), b"-6", 1);
     // The last circles are those of the legend.
     let waits = elements(&drawing, "circle", "waits");
     assert_eq!(waits.len(), 2 + 1);
@@ -183,7 +183,45 @@ fn chain_of_e() {
     let [zero, top] = numbers(waits[0], ["cx", "cy"]);
     assert_eq!(numbers(waits[1], ["cx", "cy"]), [zero + 18, top + 20]);
     assert_eq!(numbers(stops[0], ["cx", "cy"]), [zero + 36, top + 40]);
-    assert!(texts(&drawing, "").contains(&"5 at 2: byte 46 \".\""));
+    assert!(texts(&drawing, "").contains(&"5 at 2: no rule"));
+}
+
+/// Case e: where the entry ends a cross stands behind its last byte, in the row of the rule that asked for a byte there, beside the line down from there.
+#[test]
+fn cross_behind_the_last_byte() {
+    let drawing = draw("e.svg", H, b"-6", 1);
+    let mark = "the entry ends at 2, where a byte was expected: byte 46 \".\"";
+    assert!(texts(&drawing, "").contains(&mark));
+    assert_eq!(texts(&drawing, "position here"), ["2"]);
+    let bytes = elements(&drawing, "text", "byte");
+    let [last] = numbers(bytes[1], ["x"]);
+    // A byte is centred in its column, 18 wide; a cross is 3 from its left edge.
+    let behind = last + 9;
+    let crosses = elements(&drawing, "rect", "failed");
+    let crosses: Vec<[usize; 2]> = crosses
+        .into_iter()
+        .map(|cross| numbers(cross, ["x", "y"]))
+        .collect();
+    // 1 at 0, 3 at 1, 5 at 2 in the rows 0, 2 and 4; and the legend's.
+    let [_, top] = crosses[0];
+    let at = |position: usize, row: usize| [behind + 3 - 18 * (2 - position), top + 20 * row];
+    assert_eq!(crosses[..3], [at(0, 0), at(1, 2), at(2, 4)]);
+    assert_eq!(crosses.len(), 3 + 1);
+    let here = elements(&drawing, "text", "position here");
+    assert_eq!(numbers(here[0], ["x"]), [behind]);
+    let [width] = numbers(&drawing[1], ["width"]);
+    assert!(behind + 18 <= width);
+}
+
+/// An entry without bytes has no bytes to draw, and its rows at 0.
+#[test]
+fn empty_entry() {
+    let drawing = draw("empty.svg", H, b"", 1);
+    assert!(elements(&drawing, "text", "byte").is_empty());
+    let mark = "a byte was expected: byte 45 \"-\"; or class 1, a digit";
+    assert!(texts(&drawing, "").contains(&mark));
+    assert_eq!(elements(&drawing, "rect", "failed").len(), 5 + 1);
+    assert_eq!(texts(&drawing, "position here"), ["0"]);
 }
 
 /// Each letter gives two rows, and the rest three.
@@ -198,24 +236,24 @@ fn long_drawings_are_cut() {
     assert!(!texts.contains(&"[200] 1 at 200: 2, then 1; or, where 2 fails, 3"));
 }
 
-/// The letters are taken one by one, and then 3 calls itself: of the way there the end is drawn, with the arrow from the last row to itself.
+/// The letters are taken one by one, and behind the mark 7 calls itself: of the way there the end is drawn, with the arrow from the last row to itself.
+/// 1 stands in 4,001 rows, and 3, 5 and 7 in one each.
 #[test]
 fn long_ways_to_a_round_are_cut() {
-    let sheet = letters().replace("    3    0    0    0    0", "    3    4    3    3    3");
     let entry = [b"a".repeat(4000), b".".to_vec()].concat();
-    let drawing = draw("way.svg", &sheet, &entry, 1);
+    let drawing = draw("way.svg", &behind_letters(), &entry, 1);
     let texts = texts(&drawing, "");
-    assert!(texts.contains(&"Cut: the last 400 of 4002 rows are drawn."));
+    assert!(texts.contains(&"Cut: the last 400 of 4004 rows are drawn."));
     assert!(texts.contains(&"Cut: of 4001 bytes those from 3601 to 4001 are drawn."));
-    assert!(texts.contains(&"1 at 3602: 2, then 1; or, where 2 fails, 3"));
-    assert!(!texts.contains(&"1 at 3601: 2, then 1; or, where 2 fails, 3"));
-    assert!(texts.contains(&"3 at 4000: 3, then 3; or, where 3 fails, 3"));
+    assert!(texts.contains(&"1 at 3604: 2, then 1; or, where 2 fails, 3"));
+    assert!(!texts.contains(&"1 at 3603: 2, then 1; or, where 2 fails, 3"));
+    assert!(texts.contains(&"7 at 4001: 7, then 7; or, where 7 fails, 7"));
     // 399 from row to row, and one back.
     assert_eq!(elements(&drawing, "path", "arrow").len(), 400);
     let circles = elements(&drawing, "circle", "waits");
     let [first, _] = numbers(circles[0], ["cx", "cy"]);
     let [last, _] = numbers(circles[399], ["cx", "cy"]);
-    assert_eq!(last - first, 18 * (4000 - 3602));
+    assert_eq!(last - first, 18 * (4001 - 3604));
     // All the bytes that are drawn are needed.
     let bars = elements(&drawing, "rect", "opening");
     assert_eq!(numbers(bars[0], ["width"]), [18 * 400]);

@@ -5,8 +5,8 @@ use entryreader::{Answer, Pair, Reader, Rule};
 use std::collections::HashSet;
 
 /// How many questions are asked, and how many of each kind there are at least.
-const QUESTIONS: usize = 700;
-const ENOUGH: usize = 25;
+const QUESTIONS: usize = 1_600;
+const ENOUGH: usize = 20;
 
 /// A row of a printed tree.
 #[derive(Clone, Copy, Debug, PartialEq)]
@@ -15,6 +15,8 @@ struct Row {
     pair: Pair,
     again: bool,
     cell: u32,
+    /// It fails where the entry ends.
+    run_out: bool,
 }
 
 /// What was met.
@@ -24,12 +26,13 @@ struct Met {
     failures: usize,
     loops: usize,
     missing: usize,
-    ends: usize,
+    run_out: usize,
     again: usize,
     long_rounds: usize,
     rounds_behind: usize,
     openings: usize,
     longer_openings: usize,
+    other_rounds: usize,
 }
 
 impl Met {
@@ -39,16 +42,17 @@ impl Met {
             Answer::Failure { .. } => &mut self.failures,
             Answer::Loop { .. } => &mut self.loops,
             Answer::Missing { .. } => &mut self.missing,
-            Answer::End { .. } => &mut self.ends,
         } += 1;
     }
 }
 
-/// A sheet: variable 1 calls others, the others are anything. In half of the sheets variables call later ones only, so that there are fewer loops.
+/// A sheet: variable 1 calls others, the others are anything. In half of the sheets variables call later ones only, so that there are fewer loops. In a
+/// quarter variable 1 takes an `a` or fails, so that no empty entry loops.
 fn sheet(random: &mut Random) -> String {
     let variables = 3 + random.below(9);
-    let loops = random.one_in(2);
-    let mut text = format!("{variables:5}    1   46    0    0\n");
+    let (loops, takes) = (random.one_in(2), random.one_in(4));
+    let (taken, fails) = (variables + 1, variables + 2);
+    let mut text = format!("{fails:5}    1   46    0    0\n");
     for variable in 1..=variables {
         let above = if loops {
             0
@@ -61,23 +65,19 @@ fn sheet(random: &mut Random) -> String {
             1 if variable != 1 => [random.below(2), 0, 0, 0],
             2..=4 if variable != 1 => [2, random.pick(&[46, 97, 233]), 0, 0],
             5 if variable != 1 => [3, random.pick(&[3, 5]), 0, 0],
+            _ if variable == 1 && takes => [4, taken, call[1], fails],
             _ => [4, call[0], call[1], call[2]],
         };
         text += &format!("{variable:5}{kind:5}{first:5}{second:5}{third:5}\n");
     }
-    text
+    text + &format!("{taken:5}    2   97    0    0\n{fails:5}    1    0    0    0\n")
 }
 
-/// An entry, half of them with the endmarker at their end alone. An argument of a program has no byte 0.
+/// An entry. An argument of a program has no byte 0.
 fn entry(random: &mut Random) -> Vec<u8> {
     let length = random.index(8);
     let bytes = (0..length).map(|_| random.pick(b"aa\xE9\x01."));
-    let mut entry: Vec<u8> = bytes.collect();
-    if random.one_in(2) {
-        entry.retain(|byte| *byte != b'.');
-        entry.push(b'.');
-    }
-    entry
+    bytes.collect()
 }
 
 fn pair(text: &str) -> Pair {
@@ -102,8 +102,9 @@ fn row(line: &str) -> Row {
     };
     let (name, rest) = text.split_once(": ").expect("a pair and its rule");
     let pair = pair(name);
+    let run_out = rest.ends_with(". Failed: the entry ends here");
     let cell = match rest.rsplit_once(" to ") {
-        _ if rest.ends_with(". Failed") => 1,
+        _ if run_out || rest.ends_with(". Failed") => 1,
         _ if rest.ends_with(". Took nothing") => 5 + pair.position,
         Some((_, end)) => 5 + end.parse::<u32>().expect("a number"),
         None => panic!("no outcome: {line}"),
@@ -113,6 +114,7 @@ fn row(line: &str) -> Row {
         pair,
         again: rest.starts_with("as above. "),
         cell,
+        run_out,
     }
 }
 
@@ -143,9 +145,16 @@ impl Asked<'_> {
         let first = pair(first, at.position);
         match self.cell(first) {
             1 => vec![first, pair(otherwise, at.position)],
-            2..=4 => vec![first],
+            2 | 3 => vec![first],
             success => vec![first, pair(then, success - 5)],
         }
+    }
+
+    /// Does the pair ask for a byte where the entry ends?
+    fn asks_at_the_end(&self, pair: Pair) -> bool {
+        let rule = self.reader.rule(pair.variable);
+        let asks = matches!(rule, Some(Rule::Byte(_) | Rule::Class(_)));
+        asks && usize::try_from(pair.position) == Ok(self.length)
     }
 
     /// The rows of the tree below a pair.
@@ -157,6 +166,7 @@ impl Asked<'_> {
             pair,
             again,
             cell,
+            run_out: self.asks_at_the_end(pair),
         });
         if !again {
             for called in self.called(pair) {
@@ -188,6 +198,22 @@ impl Asked<'_> {
         assert_eq!(full.len(), self.reached().len());
         assert_eq!(full.into_iter().collect::<HashSet<Pair>>(), self.reached());
         met.again += rows.iter().filter(|row| row.again).count();
+    }
+
+    /// Of a failure it is told that the entry ended exactly where a pair that is reached asks for a byte at its end.
+    fn compare_mark(&self, printed: &str, met: &mut Met) {
+        let run_out = self
+            .reached()
+            .into_iter()
+            .any(|pair| self.asks_at_the_end(pair));
+        let told = match self.length {
+            0 => printed.contains("\nThe entry is empty, and a byte was expected: "),
+            n => printed.contains(&format!(
+                "^ the entry ends at {n}, where a byte was expected: "
+            )),
+        };
+        assert_eq!(told, run_out, "{printed}");
+        met.run_out += usize::from(told);
     }
 
     /// Each pair of the printed chain waits, and for the next; the last waits for the named one. The pairs of the chain.
@@ -234,15 +260,17 @@ const QUESTION: Pair = Pair {
     position: 0,
 };
 
-/// What is needed of an entry is told exactly where there is a verdict: the least number of first bytes about which the question is answered with a loop.
-fn compare_opening(printed: &str, reader: &Reader, entry: &[u8], met: &mut Met) {
+/// What is needed of an entry is told exactly where there are bytes: the least number of first bytes about which the question is answered with a loop; and
+/// to which pair that comes back, where the entry comes back to another.
+fn compare_opening(printed: &str, reader: &Reader, entry: &[u8], named: Pair, met: &mut Met) {
     let mut reader = reader.clone();
-    let judged = reader.verdict(entry).is_ok();
-    let mut answer = |bytes: usize| reader.ask(&entry[..bytes], 1, 0);
-    let mut loops = |bytes: &usize| matches!(answer(*bytes), Ok(Answer::Loop { .. }));
     let of = entry.len();
-    let least = (0..=of).find(|bytes| loops(bytes));
-    let sentence = match least.expect("the whole entry loops") {
+    let found = (0..=of).find_map(|bytes| match reader.ask(&entry[..bytes], 1, 0) {
+        Ok(Answer::Loop { named, .. }) => Some((bytes, named)),
+        _ => None,
+    });
+    let (least, back) = found.expect("the whole entry loops");
+    let sentence = match least {
         0 => String::from("No byte is needed: "),
         bytes if bytes == of => String::from("The whole entry is needed: "),
         1 => format!("The first of {of} bytes is enough: "),
@@ -250,9 +278,13 @@ fn compare_opening(printed: &str, reader: &Reader, entry: &[u8], met: &mut Met) 
     };
     let told = printed.contains(" enough: ") || printed.contains(" needed: ");
     let as_found = printed.contains(&format!("\n\n{sentence}"));
-    assert_eq!((told, as_found), (judged, judged), "{printed}");
-    met.openings += usize::from(judged);
-    met.longer_openings += usize::from(judged && least != Some(0));
+    let bytes = !entry.is_empty();
+    assert_eq!((told, as_found), (bytes, bytes), "{printed}");
+    let other = printed.contains(&format!(". There the round comes back to {back}.\n"));
+    assert_eq!(other, back != named, "{printed}");
+    met.openings += usize::from(bytes);
+    met.longer_openings += usize::from(least != 0);
+    met.other_rounds += usize::from(other);
 }
 
 /// Compares what is printed of a question.
@@ -273,7 +305,11 @@ fn compare(sheet: &str, entry: &[u8], met: &mut Met) {
     let mut last = || parts.next().expect("a part");
     met.count(answer);
     match answer {
-        Answer::Success { .. } | Answer::Failure { .. } => asked.compare_tree(last(), met),
+        Answer::Success { .. } => asked.compare_tree(last(), met),
+        Answer::Failure { .. } => {
+            asked.compare_tree(last(), met);
+            asked.compare_mark(&run.printed, met);
+        }
         Answer::Loop { named, .. } => {
             let advice = last();
             assert!(advice.ends_with(&format!("before it comes back to {named}.")));
@@ -287,10 +323,9 @@ fn compare(sheet: &str, entry: &[u8], met: &mut Met) {
             );
             met.long_rounds += usize::from(start + 1 < steps.len());
             met.rounds_behind += usize::from(start != 0);
-            compare_opening(&run.printed, &reader, entry, met);
+            compare_opening(&run.printed, &reader, entry, named, met);
         }
         Answer::Missing { named, .. } => drop(asked.compare_chain(last(), named, 3)),
-        Answer::End { named, .. } => drop(asked.compare_chain(last(), named, 4)),
     }
 }
 
@@ -307,24 +342,26 @@ fn random_questions() {
         failures,
         loops,
         missing,
-        ends,
+        run_out,
         again,
         long_rounds,
         rounds_behind,
         openings,
         longer_openings,
+        other_rounds,
     } = met;
     let counts = [
         successes,
         failures,
         loops,
         missing,
-        ends,
+        run_out,
         again,
         long_rounds,
         rounds_behind,
         openings,
         longer_openings,
+        other_rounds,
     ];
     assert!(counts.iter().all(|count| ENOUGH <= *count), "{counts:?}");
 }

@@ -1,5 +1,5 @@
-//! What a call refuses of entries and tables, what it does to the cells of a table before it asks, and what it leaves: document 02, orders 4, 6, 8
-//! and 10, over tables of just V times (n + 1) cells.
+//! What a call refuses of entries and tables, what it does to the cells of a table before it asks, and what it leaves: document 02, orders 4, 6, 8,
+//! 10 and 11, over tables of just V times (n + 1) cells.
 
 /// A cell: "two numbers side by side, outcome then reach, both 0 when blank".
 pub type Cell = [u32; 2];
@@ -16,13 +16,15 @@ pub fn is_result(outcome: u32) -> bool {
 
 /// The name of what a cell holds.
 pub fn held(outcome: u32) -> &'static str {
-    let names = ["blank", "failure", "loop", "missing", "end", "success"];
+    let names = ["blank", "failure", "loop", "missing", "four", "success"];
     names[outcome.min(SUCCESS) as usize]
 }
 
 /// What brings a cell under 19.
 #[derive(Clone, Copy, Debug, PartialEq, Eq, PartialOrd, Ord)]
 pub enum Fault {
+    /// "a retained 4 comes under 19"
+    Four,
     /// "over 5 + n"
     Over,
     /// "a success ending left of its place"
@@ -33,7 +35,9 @@ pub enum Fault {
 
 /// What is at fault in a cell at a place of an entry of n bytes.
 fn fault(n: u32, place: u32, [outcome, reach]: Cell) -> Option<Fault> {
-    if 5 + n < outcome {
+    if outcome == 4 {
+        Some(Fault::Four)
+    } else if 5 + n < outcome {
         Some(Fault::Over)
     } else if SUCCESS <= outcome && outcome - SUCCESS < place {
         Some(Fault::Left)

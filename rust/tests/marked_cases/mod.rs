@@ -1,5 +1,5 @@
 //! Document 01's marked entries: their sheets, and what is said of them.
-use entryreader::{Answer, Code, Pair, Refusal};
+use entryreader::{Answer, Code, Pair};
 
 /// Sheet H, of cases a to f.
 pub const H: &str = "    6    1   46    0    0
@@ -76,29 +76,27 @@ pub struct Case {
     pub sheet: &'static str,
     pub entry: &'static str,
     pub answer: Answer,
-    pub verdict: Result<Code, Refusal>,
+    pub verdict: Code,
 }
 
-/// Cases a and d to j; b and c are the machine's. Most have no endmarker at their end, so that the verdict is refused.
+/// Cases a and d to j; b and c are the machine's. Case e is a failure by order 11, and no entry needs the endmarker at its end.
 pub fn cases() -> [Case; 8] {
     let pair = |variable, position| Pair { variable, position };
-    let (named, cells) = (pair(5, 2), 5);
-    let end = Answer::End { named, cells };
     let (named, cells) = (pair(2, 0), 2);
     let missing = Answer::Missing { named, cells };
     let named = pair(1, 0);
     let loops = |cells| Answer::Loop { named, cells };
     let success = |end, cells| Answer::Success { end, cells };
-    let unended = Err(Refusal::Endmarker);
+    let failure = Answer::Failure { cells: 5 };
     [
-        (H, "-6.", success(3, 5), Ok(Code::Recognised)),
-        (H, "6.", success(2, 5), Ok(Code::Recognised)),
-        (H, "-6", end, unended),
-        (H, "x", Answer::Failure { cells: 5 }, unended),
-        (G, "", loops(1), unended),
-        (THROUGH_SECOND, "", loops(2), unended),
-        (I, "aa.", success(2, 7), Ok(Code::Partial)),
-        (J, "", missing, unended),
+        (H, "-6.", success(3, 5), Code::Recognised),
+        (H, "6.", success(2, 5), Code::Recognised),
+        (H, "-6", failure, Code::Failure),
+        (H, "x", failure, Code::Failure),
+        (G, "", loops(1), Code::Loop),
+        (THROUGH_SECOND, "", loops(2), Code::Loop),
+        (I, "aa.", success(2, 7), Code::Partial),
+        (J, "", missing, Code::Missing),
     ]
     .map(|(sheet, entry, answer, verdict)| Case {
         sheet,

@@ -177,6 +177,45 @@ pub fn entry(random: &mut Random, length: usize) -> Vec<u8> {
     entry
 }
 
+/// The sheet of so many variables behind rules that take these bytes first, and fail without one of them.
+fn behind(sheet: &[u8], variables: u64, taken: &[u8]) -> Vec<u8> {
+    let (takers, count) = (variables + 1, taken.len() as u64);
+    let (bytes, fails) = (takers + count, takers + 2 * count);
+    let start = std::str::from_utf8(&sheet[5..10]).map(str::trim);
+    let start: u64 = start
+        .ok()
+        .and_then(|text| text.parse().ok())
+        .expect("1 to V");
+    let mut text = row([fails, takers, 46, 0, 0]).into_bytes();
+    text.extend(&sheet[26..]);
+    for number in 0..count {
+        let next = if number + 1 < count {
+            takers + number + 1
+        } else {
+            start
+        };
+        text.extend(row([takers + number, 4, bytes + number, next, fails]).bytes());
+    }
+    for (byte, variable) in taken.iter().zip(bytes..) {
+        text.extend(row([variable, 2, (*byte).into(), 0, 0]).bytes());
+    }
+    text.extend(row([fails, 1, 0, 0, 0]).bytes());
+    text
+}
+
+/// A sheet of so many variables and an entry of so many bytes. Where there is room, five in twelve have some more in front: bytes that are taken first, so that
+/// an opening that loops has them all.
+pub fn sheet_and_entry(random: &mut Random, variables: u64, length: usize) -> (Vec<u8>, Vec<u8>) {
+    let (sheet, entry) = (sheet(random, variables), entry(random, length));
+    let count = random.pick(&[0, 0, 0, 0, 0, 0, 0, 1, 2, 3, 4, 6]);
+    if count == 0 || 255 < variables + 2 * count as u64 || 4_096 < length + count {
+        return (sheet, entry);
+    }
+    let taken: Vec<u8> = (0..count).map(|_| random.pick(b"\xE9\xC9a6-")).collect();
+    let sheet = behind(&sheet, variables, &taken);
+    (sheet, [taken, entry].concat())
+}
+
 /// An entry that another one corrects, and the position that is named for it. Mostly they differ there or nowhere; else elsewhere or in length, or no
 /// byte stands there.
 pub fn old_entry(random: &mut Random, entry: &[u8]) -> (Vec<u8>, u32) {
@@ -264,19 +303,14 @@ pub fn case(random: &mut Random) -> Case {
         9..15 => (6 + random.below(19), 100 + random.index(200)),
         _ => (1 + random.below(16), random.index(13)),
     };
-    let mut sheet = sheet(random, variables);
-    let entry = entry(random, length);
+    let (sheet, entry) = sheet_and_entry(random, variables, length);
+    let mut case = Case::new(sheet, &entry, 0);
     if random.one_in(4) {
-        damage(random, &mut sheet);
+        damage(random, &mut case.sheet);
     }
-    let asked = asked(random, variables, length);
-    let cells = variables as usize * (entry.len() + 1);
-    Case {
-        sheet,
-        entry,
-        asked,
-        cells,
-    }
+    let variables = (case.cells / (entry.len() + 1)) as u64;
+    case.asked = asked(random, variables, entry.len());
+    case
 }
 
 /// The reading of another pair of the same sheet and entry; no lines where it has none.

@@ -53,7 +53,7 @@ impl Machine<'_> {
         match self.recognizer.leaf(pair) {
             Some(Outcome::Success(end)) => self.step().map(|()| (true, end)),
             Some(Outcome::Failure) => self.step().map(|()| (false, start)),
-            Some(stop) => Err(Ending::Outcome(stop)),
+            Some(missing) => Err(Ending::Outcome(missing)),
             None => self.calls(variable, start, frames),
         }
     }

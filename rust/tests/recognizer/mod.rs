@@ -1,4 +1,5 @@
-//! A recognizer of its own, written from document 01 and, for reaches and openings, orders 6 and 7 of document 02: recursive, with a memo in a hash map.
+//! A recognizer of its own, written from document 01 and, for reaches, openings and the entry's end, orders 6, 7 and 11 of document 02: recursive, with
+//! a memo in a hash map.
 //! Reached pairs and the named pair are found by their definitions, after the outcomes. A refusal is its number; that of a sheet or a verdict has its
 //! line too.
 mod machine;
@@ -37,7 +38,6 @@ pub enum Outcome {
     Failure,
     Loop,
     Missing,
-    End,
 }
 
 /// "A question is sheet bytes, entry, variable and place".
@@ -69,10 +69,6 @@ impl Answered {
                 cells,
             },
             Outcome::Missing => Answer::Missing {
-                named: named(),
-                cells,
-            },
-            Outcome::End => Answer::End {
                 named: named(),
                 cells,
             },
@@ -245,12 +241,11 @@ impl<'a> Recognizer<'a> {
         }
     }
 
-    /// What a rule that calls nothing gives; nothing for a rule of kind 4.
+    /// What a rule that calls nothing gives; nothing for a rule of kind 4. "From now on a byte or class rule at place n fails".
     fn leaf(&self, pair: Pair) -> Option<Outcome> {
         let one_byte = |fits: &dyn Fn(u8) -> bool| match self.entry.get(pair.position as usize) {
-            None => Outcome::End,
             Some(byte) if fits(*byte) => Outcome::Success(pair.position + 1),
-            Some(_) => Outcome::Failure,
+            _ => Outcome::Failure,
         };
         match self.sheet.rules.get(&pair.variable) {
             None => Some(Outcome::Missing),
@@ -317,8 +312,8 @@ impl<'a> Recognizer<'a> {
         pair
     }
 
-    /// "A leaf of kind 0 or 1 reaches its place; a byte or class rule reaches one past it. Kind 4 has the greater reach of its two called pairs.
-    /// Loop, missing and end have reach 0."
+    /// "A leaf of kind 0 or 1 reaches its place; a byte or class rule reaches one past it", at n too: n + 1. "Kind 4 has the greater reach of its two
+    /// called pairs"; loop and missing have reach 0.
     fn reach(&mut self, pair: Pair, reaches: &mut HashMap<Pair, u32>) -> u32 {
         if !self.has_result(pair) {
             return 0;
@@ -368,7 +363,6 @@ pub fn code(outcome: Outcome) -> u32 {
         Outcome::Failure => 1,
         Outcome::Loop => 2,
         Outcome::Missing => 3,
-        Outcome::End => 4,
         Outcome::Success(end) => 5 + end,
     }
 }
@@ -386,11 +380,6 @@ pub fn judge(sheet: &[u8], entry: &[u8], table: usize, work: usize) -> Result<Ju
     if entry.len() > 4096 {
         return Err((6, 0));
     }
-    if entry.iter().position(|b| *b == sheet.endmarker) != entry.len().checked_sub(1)
-        || entry.is_empty()
-    {
-        return Err((7, 0));
-    }
     let size = sheet.variables as usize * (entry.len() + 1);
     if table < 2 * size || work < size {
         return Err((10, 0));
@@ -406,7 +395,6 @@ pub fn judge(sheet: &[u8], entry: &[u8], table: usize, work: usize) -> Result<Ju
         Outcome::Failure => (Code::Failure, 0),
         Outcome::Loop => (Code::Loop, 0),
         Outcome::Missing => (Code::Missing, 0),
-        Outcome::End => (Code::End, 0),
     };
     let (variable, place) = found
         .named

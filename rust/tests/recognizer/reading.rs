@@ -75,7 +75,7 @@ fn lines(recognizer: &mut Recognizer, asked: Pair) -> Vec<Line> {
     reading.lines
 }
 
-/// The reading of a question that is not refused; no lines for loop, missing and end.
+/// The reading of a question that is not refused; no lines for loop and missing.
 pub fn reading(question: Question) -> Option<Vec<Line>> {
     let sheet = question.admit().ok()?;
     let mut recognizer = Recognizer::new(&sheet, question.entry);
@@ -134,8 +134,7 @@ fn given(sheet: &Sheet, entry: &[u8], earlier: &[Line], line: &Line) -> Option<O
     }
     let at = |variable, position| Pair { variable, position };
     if let Some(leaf) = Recognizer::new(sheet, entry).leaf(at(variable, position)) {
-        let result = matches!(leaf, Outcome::Success(_) | Outcome::Failure);
-        return (result && first == 0 && second == 0).then_some(leaf);
+        return (leaf != Outcome::Missing && first == 0 && second == 0).then_some(leaf);
     }
     let Some(Rule::Calls(b, c, d)) = sheet.rules.get(&variable) else {
         unreachable!("only kind 4 is no leaf");

@@ -38,6 +38,16 @@ impl Case<'_> {
         }
     }
 
+    /// The position behind the last byte.
+    pub fn end(&self) -> u32 {
+        u32::try_from(self.entry.len()).unwrap_or(u32::MAX)
+    }
+
+    /// Does the pair ask for a byte where the entry ends?
+    pub fn runs_out(&self, pair: Pair) -> bool {
+        pair.position == self.end() && self.asks_for_a_byte(pair.variable)
+    }
+
     /// Does the variable's rule ask for a byte?
     pub fn asks_for_a_byte(&self, variable: u32) -> bool {
         let rule = self.reader.rule(variable);

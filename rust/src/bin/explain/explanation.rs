@@ -4,7 +4,7 @@ use crate::chain::{self, First, Step};
 use crate::opening::Opening;
 use crate::tree::{Row, Tree};
 use crate::{picture, words};
-use entryreader::{Answer, Error, Line, Pair, Reader, Refusal, Verdict};
+use entryreader::{Error, Line, Pair, Reader, Verdict};
 use std::io::{self, Write};
 
 /// The levels of a tree that are indented; a deeper one is told by its number.
@@ -16,14 +16,12 @@ const EXPECTED: usize = 5;
 /// The most pairs of a round that are told in one sentence.
 const ROUND: usize = 4;
 
-/// The verdict, the answer about the start variable at 0, and what the answer follows from.
+/// The verdict, and what it follows from.
 pub struct Explanation {
-    /// Refused (7) where the entry does not end with the endmarker, or has it earlier too; the answer is there all the same.
-    judged: Result<Verdict, Error>,
-    answer: Answer,
-    /// Where the verdict is loop.
+    verdict: Verdict,
+    /// Where the verdict is loop, and there are bytes.
     pub opening: Option<Opening>,
-    /// The lines of the reading; none for loop, missing and end.
+    /// The lines of the reading; none for loop and missing.
     pub lines: Vec<Line>,
     /// The steps of the waiting; none for success and failure.
     pub steps: Vec<Step>,
@@ -32,69 +30,50 @@ pub struct Explanation {
 impl Explanation {
     /// Asks for the verdict, the opening and the reading; only an entry that is too long has none.
     pub fn new(reader: &mut Reader, entry: &[u8]) -> Result<Explanation, Error> {
-        let judged = reader.verdict(entry);
-        if let Err(error) = judged
-            && error.refusal() != Refusal::Endmarker
-        {
-            return Err(error);
-        }
-        let least = match judged {
-            Ok(Verdict::Loop { .. }) => reader.opening(entry)?,
+        let verdict = reader.verdict(entry)?;
+        let opening = match verdict {
+            Verdict::Loop { named, .. } => Opening::new(reader, entry, named)?,
             _ => None,
         };
-        let opening = least.map(|bytes| Opening {
-            bytes,
-            of: entry.len(),
-        });
-        let reading = reader.reading(entry)?;
+        let lines = reader.reading(entry)?.lines;
         let asked = Pair {
             variable: reader.start(),
             position: 0,
         };
-        let steps = match reading.answer {
-            Answer::Success { .. } | Answer::Failure { .. } => Vec::new(),
-            _ => chain::steps(reader, entry, asked),
+        let steps = match verdict {
+            Verdict::Loop { .. } | Verdict::Missing { .. } => chain::steps(reader, entry, asked),
+            _ => Vec::new(),
         };
         Ok(Explanation {
-            judged,
-            answer: reading.answer,
+            verdict,
             opening,
-            lines: reading.lines,
+            lines,
             steps,
         })
     }
 
     /// Is the whole entry recognised?
     pub fn is_recognised(&self) -> bool {
-        self.judged.is_ok_and(|verdict| verdict.is_recognised())
+        self.verdict.is_recognised()
     }
 
     /// The pair where the waiting ends, or that is met a second time.
     pub fn named(&self) -> Option<Pair> {
-        match self.answer {
-            Answer::Success { .. } | Answer::Failure { .. } => None,
-            Answer::Loop { named, .. }
-            | Answer::Missing { named, .. }
-            | Answer::End { named, .. } => Some(named),
+        match self.verdict {
+            Verdict::Loop { named, .. } | Verdict::Missing { named, .. } => Some(named),
+            _ => None,
         }
     }
 
     /// Is the named pair one that is met a second time?
     pub fn is_loop(&self) -> bool {
-        matches!(self.answer, Answer::Loop { .. })
+        matches!(self.verdict, Verdict::Loop { .. })
     }
 
     /// Writes all of it.
     pub fn write(&self, case: Case, out: &mut dyn Write) -> io::Result<()> {
-        if let Err(error) = self.judged {
-            write_endmarker(case, &error, out)?;
-            writeln!(out)?;
-            writeln!(out, "Asked all the same, without the endmarker's rule:")?;
-            writeln!(out)?;
-        }
         writeln!(out, "{}", self.headline(case))?;
-        let (position, mark) = self.mark(case);
-        picture::write(out, case.entry, words::index(position), &mark)?;
+        self.write_mark(case, out)?;
         if let Some(opening) = self.opening {
             write_opening(case, opening, out)?;
         }
@@ -106,25 +85,18 @@ impl Explanation {
     /// The answer in a line.
     pub fn headline(&self, case: Case) -> String {
         let length = case.entry.len();
-        let name = |pair: Pair| case.reader.name(pair.variable);
-        match self.answer {
-            Answer::Success { .. } if self.is_recognised() => {
+        match self.verdict {
+            Verdict::Recognised { .. } => {
                 format!("recognised: the reading takes the whole entry, {length} of {length} bytes")
             }
-            Answer::Success { end, .. } => {
-                let code = self.judged.map(|verdict| verdict.code().to_string());
-                let word = code.unwrap_or_else(|_| String::from("success"));
-                format!("{word}: the reading takes {end} of {length} bytes")
+            Verdict::Partial { end, .. } => {
+                format!("partial: the reading takes {end} of {length} bytes")
             }
-            Answer::Failure { .. } => String::from("failure: the entry does not fit the sheet"),
-            Answer::Loop { named, .. } => format!("loop: {}", self.round(case, named)),
-            Answer::Missing { named, .. } => {
-                let (name, position) = (name(named), named.position);
+            Verdict::Failure { .. } => String::from("failure: the entry does not fit the sheet"),
+            Verdict::Loop { named, .. } => format!("loop: {}", self.round(case, named)),
+            Verdict::Missing { named, .. } => {
+                let (name, position) = (case.reader.name(named.variable), named.position);
                 format!("missing: {name} has no rule, and is asked for at {position}")
-            }
-            Answer::End { named, .. } => {
-                let (name, position) = (name(named), named.position);
-                format!("end: {name} asks for a byte at {position}, where the entry ends")
             }
         }
     }
@@ -152,29 +124,40 @@ impl Explanation {
 
     /// The position that matters most, and what is to be said of it.
     pub fn mark(&self, case: Case) -> (u32, String) {
-        match self.answer {
-            Answer::Success { end, .. } => (end, format!("ends at {end}")),
-            Answer::Failure { .. } => self.expected(case).unwrap_or_else(|| {
+        match self.verdict {
+            Verdict::Recognised { .. } => {
+                let end = case.end();
+                (end, format!("ends at {end}"))
+            }
+            Verdict::Partial { end, .. } => (end, format!("ends at {end}")),
+            Verdict::Failure { .. } => self.expected(case).unwrap_or_else(|| {
                 let mark = "no byte is at fault: a rule that always fails was met";
                 (0, String::from(mark))
             }),
-            Answer::Loop { named, .. } => {
+            Verdict::Loop { named, .. } => {
                 let position = named.position;
                 let mark = format!("the round is at {position}, and takes no byte");
                 (position, mark)
             }
-            Answer::Missing { named, .. } => {
+            Verdict::Missing { named, .. } => {
                 let mark = format!("{} is asked for", case.pair(named));
-                (named.position, mark)
-            }
-            Answer::End { named, .. } => {
-                let mark = format!("{} asks for a byte", case.pair(named));
                 (named.position, mark)
             }
         }
     }
 
-    /// The rightmost position at which a byte was asked for and was another one, and that it was; none where no rule failed for a byte.
+    /// Writes the bytes around the position that matters most, and what is to be said of it; of an entry without bytes that it is empty.
+    fn write_mark(&self, case: Case, out: &mut dyn Write) -> io::Result<()> {
+        let (position, mark) = self.mark(case);
+        match (case.entry, self.verdict) {
+            ([], Verdict::Failure { .. }) => writeln!(out, "\nThe entry is empty, and {mark}"),
+            ([], _) => writeln!(out, "\nThe entry is empty."),
+            _ => picture::write(out, case.entry, words::index(position), &mark),
+        }
+    }
+
+    /// The rightmost position at which a byte was asked for and was another one, or was not there, and that it was so; none where no rule failed for a
+    /// byte.
     fn expected(&self, case: Case) -> Option<(u32, String)> {
         let failed = || {
             let failed = self.lines.iter().filter(|line| !line.success);
@@ -192,9 +175,14 @@ impl Explanation {
             expected.truncate(EXPECTED);
             expected.push(String::from("another"));
         }
-        let expected = expected.join("; or ");
-        let mark = format!("at {position} another byte was expected: {expected}");
-        Some((position, mark))
+        let front = match position {
+            0 if case.entry.is_empty() => String::from("a byte was expected"),
+            end if end == case.end() => {
+                format!("the entry ends at {end}, where a byte was expected")
+            }
+            _ => format!("at {position} another byte was expected"),
+        };
+        Some((position, format!("{front}: {}", expected.join("; or "))))
     }
 
     /// The steps of the waiting, and how it ends.
@@ -215,11 +203,6 @@ impl Explanation {
         writeln!(out, "{}", self.ending(case, named))
     }
 
-    /// The refusal, where the entry is refused for its endmarker.
-    pub fn refused(&self) -> Option<String> {
-        self.judged.err().map(|error| words::refused(&error))
-    }
-
     /// What is to be done about a loop.
     pub fn advice(&self, case: Case) -> Option<String> {
         let named = self.named().filter(|_| self.is_loop())?;
@@ -229,50 +212,19 @@ impl Explanation {
     /// How the waiting ends.
     pub fn ending(&self, case: Case, named: Pair) -> String {
         let pair = case.pair(named);
-        match self.answer {
-            Answer::Loop { .. } => {
-                format!(
-                    "One of the rules of this round must take a byte before it comes back to {pair}."
-                )
-            }
-            Answer::Missing { .. } => {
-                let name = case.reader.name(named.variable);
-                format!("{pair} has no rule: the sheet has no line for {name}")
-            }
-            _ => {
-                let rule = case.rule(named.variable);
-                format!("{pair} asks for {rule}, and the entry ends there")
-            }
+        if self.is_loop() {
+            return format!(
+                "One of the rules of this round must take a byte before it comes back to {pair}."
+            );
         }
+        let name = case.reader.name(named.variable);
+        format!("{pair} has no rule: the sheet has no line for {name}")
     }
-}
-
-/// Writes why the entry is refused for its endmarker.
-fn write_endmarker(case: Case, error: &Error, out: &mut dyn Write) -> io::Result<()> {
-    writeln!(out, "{}", words::refused(error))?;
-    let endmarker = case.reader.endmarker();
-    let named = words::byte(endmarker);
-    let Some((last, before)) = case.entry.split_last() else {
-        return writeln!(
-            out,
-            "\nThe entry is empty: not even the endmarker, {named}, is there."
-        );
-    };
-    if let Some(position) = before.iter().position(|byte| *byte == endmarker) {
-        let mark = format!("at {position} the endmarker, {named}, stands before the entry's end");
-        picture::write(out, case.entry, position, &mark)?;
-    }
-    if *last != endmarker {
-        let last = words::byte(*last);
-        let mark = format!("the entry ends with {last}, not with the endmarker, {named}");
-        picture::write(out, case.entry, before.len(), &mark)?;
-    }
-    Ok(())
 }
 
 /// Writes how much of the entry loops already.
 fn write_opening(case: Case, opening: Opening, out: &mut dyn Write) -> io::Result<()> {
-    writeln!(out, "\n{}", opening.sentence())?;
+    writeln!(out, "\n{}", opening.sentence(case))?;
     picture::write_first(out, case.entry, opening.bytes, &opening.mark())
 }
 
@@ -285,6 +237,7 @@ fn write_row(case: Case, row: &Row, out: &mut dyn Write) -> io::Result<()> {
     }
     let outcome = match row.line.success {
         true => format!("Took {}", case.taken(row.line.start, row.line.end)),
+        false if case.runs_out(row.line.pair()) => String::from("Failed: the entry ends here"),
         false => String::from("Failed"),
     };
     writeln!(out, "{}. {outcome}", row_label(case, row))
@@ -304,6 +257,10 @@ fn write_step(case: Case, step: &Step, back: bool, out: &mut dyn Write) -> io::R
     writeln!(out, "{}", case.label(step.pair))?;
     let so = match step.first {
         First::Waits => "",
+        First::Failed(first) if case.runs_out(first) => {
+            writeln!(out, "  {} fails: the entry ends there", case.pair(first))?;
+            "so "
+        }
         First::Failed(first) => {
             writeln!(out, "  {} fails", case.pair(first))?;
             "so "

@@ -161,9 +161,7 @@ impl fmt::Display for Shown<'_> {
             Verdict::Recognised { .. } => write!(f, " {}", self.length),
             Verdict::Partial { end, .. } => write!(f, " {end}"),
             Verdict::Failure { .. } => Ok(()),
-            Verdict::Loop { named, .. }
-            | Verdict::Missing { named, .. }
-            | Verdict::End { named, .. } => self.pair(named, f),
+            Verdict::Loop { named, .. } | Verdict::Missing { named, .. } => self.pair(named, f),
         }
     }
 }

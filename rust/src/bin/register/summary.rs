@@ -15,16 +15,14 @@ enum Kind {
     Refused(Refusal),
 }
 
-/// The kinds in the order in which they are shown. An accepted sheet with room enough leaves two refusals.
-const KINDS: [Kind; 8] = [
+/// The kinds in the order in which they are shown. An accepted sheet with room enough leaves one refusal.
+const KINDS: [Kind; 6] = [
     Kind::Verdict(Code::Recognised),
     Kind::Verdict(Code::Partial),
     Kind::Verdict(Code::Failure),
     Kind::Verdict(Code::Loop),
     Kind::Verdict(Code::Missing),
-    Kind::Verdict(Code::End),
     Kind::Refused(Refusal::LongEntry),
-    Kind::Refused(Refusal::Endmarker),
 ];
 
 impl fmt::Display for Kind {
@@ -103,11 +101,12 @@ impl Summary {
         self.tallies[0].entries == self.entries
     }
 
-    /// Do most entries that are refused for their endmarker end with byte 13?
+    /// Do most entries that are not recognised end with byte 13? A sheet that takes the byte leaves none of them.
     fn has_returns(&self) -> bool {
-        let refused = Kind::Refused(Refusal::Endmarker);
-        let mut tallies = self.tallies.iter();
-        tallies.any(|tally| tally.kind == refused && tally.entries < 2 * tally.with_return)
+        let others = || self.tallies.iter().filter(|tally| tally.kind != KINDS[0]);
+        let entries: u64 = others().map(|tally| tally.entries).sum();
+        let with_return: u64 = others().map(|tally| tally.with_return).sum();
+        entries < 2 * with_return
     }
 
     fn entries_a_second(&self) -> u128 {

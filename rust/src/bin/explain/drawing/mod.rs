@@ -63,7 +63,7 @@ pub fn svg(explanation: &Explanation, case: Case) -> String {
     canvas.finish(width, layout.bottom() + ROW * (notes.len() + 3))
 }
 
-/// What is said below the drawing: what is needed for a loop, what is to be done, why the entry is refused, what is left out.
+/// What is said below the drawing: what is needed for a loop, what is to be done, what is left out.
 fn notes(explanation: &Explanation, case: Case, rows: &Rows, layout: &Layout) -> Vec<String> {
     let (all, drawn) = (rows.all, rows.drawn.len());
     let which = if rows.skipped == 0 { "first" } else { "last" };
@@ -71,9 +71,8 @@ fn notes(explanation: &Explanation, case: Case, rows: &Rows, layout: &Layout) ->
     let (length, first, last) = (case.entry.len(), layout.first, layout.last);
     let cut_bytes = format!("Cut: of {length} bytes those from {first} to {last} are drawn.");
     let notes = [
-        explanation.opening.map(Opening::sentence),
+        explanation.opening.map(|opening| opening.sentence(case)),
         explanation.advice(case),
-        explanation.refused(),
         (drawn < all).then_some(cut_rows),
         (last - first < length).then_some(cut_bytes),
     ];
