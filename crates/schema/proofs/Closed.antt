@@ -17,11 +17,6 @@ use Rattle.schema.proofs.Cell.{pairOf, PairWithin, cell-below, pair-cel
 use Rattle.schema.proofs.Ends.{ends-in, derives-ends}
 use Rattle.schema.proofs.System.{gts, kind-calls, first-is, second-is, from-done}
 
-byte-not-calls : (p B C D : ℕ) (b m : Bool) → cond b (cond m (gives (success (p + 1))) (gives failure)) atEnd ≡ calls B C D → ⊥
-byte-not-calls p B C D true true e = true≢false (cc)
-byte-not-calls p B C D true false e = true≢false (cc)
-byte-not-calls p B C D false m e = true≢false (cc)
-
 -- A rule of kind 2 or 3 has a result at every position.
 byte-gives : (p : ℕ) (b m : Bool) → (r : Result) × (cond b (cond m (gives (success (p + 1))) (gives failure)) atEnd ≡ gives r)
 byte-gives p true true = (success (p + 1), refl)
@@ -42,8 +37,8 @@ unfolding actOf
 calls-call absent s p B C D e = absurd (true≢false (cc))
 calls-call always s p B C D e = absurd (true≢false (cc))
 calls-call never s p B C D e = absurd (true≢false (cc))
-calls-call (byte b) s p B C D e = absurd (byte-not-calls p B C D (ltb p (length s)) (eqb (getD s p 0) b) e)
-calls-call (class c) s p B C D e = absurd (byte-not-calls p B C D (ltb p (length s)) (eqb (classOf (getD s p 0)) c) e)
+calls-call (byte b) s p B C D e = let f = byte-result b s p .1 in absurd (true≢false (cc))
+calls-call (class c) s p B C D e = let f = class-result c s p .1 in absurd (true≢false (cc))
 calls-call (call E F G) s p B C D e = cc
 
 -- The second called pair is a pair.
