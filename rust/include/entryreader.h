@@ -108,24 +108,6 @@ uint32_t entryreader_further(
     uint32_t (*answer)[4]);
 
 /*
- * The question about a sheet with more than two outcomes: outcomes 1 to m, of which the first l advance. Its lines have eleven fields of 5 columns and byte
- * 10, so 56 bytes: first V, the start variable, m, l and seven zeros; then a line for each variable in turn, with its kind and nine operands. g is eight rows
- * of eight, row by row: the outcome of B(C1..Cm) where B has outcome i and its C outcome j is number 8 times (i - 1) plus j - 1, and 0 where i or j is above
- * m. Table and work slice are as long as for entryreader_question, and so is a cell, but for its outcome: 0 if the question does not reach it, 1 for loop,
- * 1 + j + 8 times q for outcome j ending at q. Returns 0, with the asked cell's outcome, the named variable and position of a loop (else 0 and 0) and the
- * count of decided cells in the answer; or a refusal (1 to 6, 8 to 10, and behind 3 and before the rules 22: m is not 1 to 8, l is over m, or an entry of g
- * is not as above).
- */
-uint32_t entryreader_outcomes(
-    const uint8_t *sheet, size_t sheet_length,
-    const uint8_t *input, size_t input_length,
-    uint32_t variable, uint32_t position,
-    const uint32_t (*g)[64],
-    uint32_t *table, size_t table_length,
-    uint32_t *work, size_t work_length,
-    uint32_t (*answer)[4]);
-
-/*
  * Stores the cells of a table by place, for an archive: the cell of variable A at p, both its numbers, becomes cell p times V plus A - 1 of stored. V is
  * variables and n is length; each of the two has twice V times (n + 1) numbers or more. What the cells hold is not looked at, and later numbers of stored
  * are unchanged. Returns 0; or a refusal (3 where V is not 1 to 256, 6 where n is over 4,096, 20 where one of the two has fewer numbers).

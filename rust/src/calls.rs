@@ -85,21 +85,6 @@ unsafe extern "C" {
         answer: *mut [u32; 4],
     ) -> u32;
 
-    fn entryreader_outcomes(
-        sheet: *const u8,
-        sheet_length: usize,
-        input: *const u8,
-        input_length: usize,
-        variable: u32,
-        position: u32,
-        g: *const [u32; 64],
-        table: *mut u32,
-        table_length: usize,
-        work: *mut u32,
-        work_length: usize,
-        answer: *mut [u32; 4],
-    ) -> u32;
-
     fn entryreader_store(
         variables: u32,
         length: u32,
@@ -296,37 +281,6 @@ pub fn further(
             entry.len(),
             variable,
             position,
-            table.as_mut_ptr(),
-            table.len(),
-            work.as_mut_ptr(),
-            work.len(),
-            answer,
-        )
-    }
-}
-
-/// 0 with the four numbers in `answer`, or 100 plus the number of a refusal. The eight rows of `g` go over as one array.
-#[allow(clippy::too_many_arguments)] // Those of the exported call.
-pub fn outcomes(
-    sheet: &[u8],
-    entry: &[u8],
-    variable: u32,
-    position: u32,
-    g: &[[u32; 8]; 8],
-    table: &mut [u32],
-    work: &mut [u32],
-    answer: &mut [u32; 4],
-) -> u32 {
-    // SAFETY: the call has no precondition; it reads the first two slices and the 64 numbers of `g`, and writes inside the three that are lent exclusively.
-    unsafe {
-        entryreader_outcomes(
-            sheet.as_ptr(),
-            sheet.len(),
-            entry.as_ptr(),
-            entry.len(),
-            variable,
-            position,
-            g.as_ptr().cast(),
             table.as_mut_ptr(),
             table.len(),
             work.as_mut_ptr(),

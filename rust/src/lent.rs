@@ -17,7 +17,7 @@
 //! assert_eq!(table, [6, 1, 0, 0]);
 //! # Ok::<(), entryreader::Error>(())
 //! ```
-use crate::{Answer, Claim, Code, Error, Verdict, calls, outcomes};
+use crate::{Answer, Claim, Code, Error, Verdict, calls};
 
 /// Line 1 of a sheet.
 ///
@@ -274,55 +274,6 @@ pub fn further(
     let mut numbers = [0; 4];
     let code = calls::further(sheet, entry, variable, position, table, work, &mut numbers);
     Answer::from_numbers(code, numbers)
-}
-
-/// The outcome of a variable at a position of an entry, by a sheet with [more than two outcomes](mod@crate::outcomes) and its table g, eight
-/// rows of eight. Table and work slice are lent as to [`question`].
-///
-/// A cell is two numbers side by side as there. Afterwards its first is 0 if its pair is not reached, 1 for loop, 1 + j + 8 times q for outcome j ending at
-/// q. Its reach is p for a rule of kind 0, p + 1 for one that asks for a byte or a class, the greater of the two called pairs' for one that calls, and 0 for
-/// loop. Later numbers of both slices are unchanged.
-///
-/// ```
-/// use entryreader::{lent, outcomes::{Answer, Combination}};
-///
-/// // A full stop is outcome 1 and advances, all else is outcome 2.
-/// let sheet = b"    1    1    2    1    0    0    0    0    0    0    0
-///     1    2   46    1    2    0    0    0    0    0    0
-/// ";
-/// let g = Combination::new(2, |_, j| j)?;
-/// let (mut table, mut work) = ([7; 5], [7; 3]);
-/// let answer = lent::outcomes(sheet, b".", 1, 0, g.rows(), &mut table, &mut work)?;
-/// assert_eq!(answer, Answer::Outcome { outcome: 1, end: 1, cells: 1 });
-/// assert_eq!(table, [10, 1, 0, 0, 7]);
-/// // Row 3 is one of no outcome, and must be zeros.
-/// let mut rows = *g.rows();
-/// rows[2][0] = 1;
-/// let error = lent::outcomes(sheet, b".", 1, 0, &rows, &mut table, &mut work).unwrap_err();
-/// assert_eq!(error.number(), 22);
-/// # Ok::<(), entryreader::Error>(())
-/// ```
-pub fn outcomes(
-    sheet: &[u8],
-    entry: &[u8],
-    variable: u32,
-    position: u32,
-    g: &[[u32; 8]; 8],
-    table: &mut [u32],
-    work: &mut [u32],
-) -> Result<outcomes::Answer, Error> {
-    let mut numbers = [0; 4];
-    let code = calls::outcomes(
-        sheet,
-        entry,
-        variable,
-        position,
-        g,
-        table,
-        work,
-        &mut numbers,
-    );
-    outcomes::Answer::from_numbers(code, numbers)
 }
 
 /// Stores the cells of a table of so many variables and bytes by place, for an archive: the cell of variable A at p, both its numbers, becomes cell p

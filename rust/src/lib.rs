@@ -17,8 +17,6 @@
 //! # Ok::<(), entryreader::Error>(())
 //! ```
 //!
-//! Sheets that say more than yes and no, as "doubtful", are in the module [`outcomes`].
-//!
 //! A sheet has at most 256 variables, an entry at most 4,096 bytes, in ISO 8859-1 where a rule asks for a class of letters. An entry needs no closing
 //! mark, and may be empty: where a rule asks for a byte and the entry has ended, it fails. Everything else is refused: [`Error`] says why, and at which
 //! line of the sheet.
@@ -32,7 +30,6 @@
 mod answers;
 mod calls;
 pub mod lent;
-pub mod outcomes;
 mod reader;
 mod reading;
 mod refusal;

@@ -396,28 +396,13 @@ impl Reader {
 
     /// Lets the table grow to two numbers for each cell of an entry, and the work slice to one: the count of cells. What they hold stays.
     fn make_room(&mut self, entry: &[u8]) -> usize {
-        make_room(
-            self.header.variables,
-            entry,
-            &mut self.table,
-            &mut self.work,
-        )
+        let cells = self.cells(entry.len().min(LONGEST));
+        if self.work.len() < cells {
+            self.table.resize(2 * cells, 0);
+            self.work.resize(cells, 0);
+        }
+        cells
     }
-}
-
-/// Lets a table grow to two numbers for each cell of an entry under so many variables, and a work slice to one: the count of cells.
-pub(crate) fn make_room(
-    variables: u32,
-    entry: &[u8],
-    table: &mut Vec<u32>,
-    work: &mut Vec<u32>,
-) -> usize {
-    let cells = calls::length(variables) * (entry.len().min(LONGEST) + 1);
-    if work.len() < cells {
-        table.resize(2 * cells, 0);
-        work.resize(cells, 0);
-    }
-    cells
 }
 
 /// Is it a refusal that a line of a reading brings on?

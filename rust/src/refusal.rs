@@ -11,17 +11,15 @@ use std::fmt;
 /// ```
 #[derive(Clone, Copy, Debug, PartialEq, Eq, Hash)]
 pub enum Refusal {
-    /// 1: the sheet is empty, over 257 lines, or not lines of 26 bytes (with more than two [`outcomes`](crate::outcomes) 56) that end with byte 10.
+    /// 1: the sheet is empty, over 257 lines, or not lines of 26 bytes that end with byte 10.
     NotLines = 1,
     /// 2: a field of the sheet is no right-justified number.
     Field,
-    /// 3: line 1 of the sheet is out of range, or its last two fields (with more than two outcomes its last seven) are not 0; of a table that is stored
-    /// or restored: V is not 1 to 256.
+    /// 3: line 1 of the sheet is out of range, or its last two fields are not 0; of a table that is stored or restored: V is not 1 to 256.
     Header,
-    /// 4: the variable of a sheet line is not in 1 to V, or not above that of the line before; with more than two outcomes: not the next one, or a
-    /// variable has no line.
+    /// 4: the variable of a sheet line is not in 1 to V, or not above that of the line before.
     RuleVariable,
-    /// 5: the kind of a sheet line is over 4, or with more than two outcomes 1, or its operands do not fit.
+    /// 5: the kind of a sheet line is over 4, or its operands do not fit.
     Rule,
     /// 6: the entry, of a correction the corrected one, has over 4,096 bytes; of a table that is stored or restored: n is over 4,096.
     LongEntry,
@@ -56,13 +54,11 @@ pub enum Refusal {
     Tables,
     /// 21, of a correction: the old entry and the corrected one differ in length, or at a position other than the corrected byte's.
     Entries,
-    /// 22, of a sheet with more than two outcomes: m is not 1 to 8, l is over m, or an entry of g is not 1 to m, or not 0 where i or j is above m.
-    Combination,
 }
 
 impl Refusal {
     /// In the order of their numbers, from 1 on.
-    const ALL: [Refusal; 21] = [
+    const ALL: [Refusal; 20] = [
         Refusal::NotLines,
         Refusal::Field,
         Refusal::Header,
@@ -83,10 +79,9 @@ impl Refusal {
         Refusal::Cell,
         Refusal::Tables,
         Refusal::Entries,
-        Refusal::Combination,
     ];
 
-    /// The refusal of a number from 1 to 22, of which 7 is none.
+    /// The refusal of a number from 1 to 21, of which 7 is none.
     ///
     /// ```
     /// use entryreader::Refusal;
@@ -100,7 +95,7 @@ impl Refusal {
             .find(|refusal| refusal.number() == number)
     }
 
-    /// Its number, from 1 to 6 or 8 to 22.
+    /// Its number, from 1 to 6 or 8 to 21.
     ///
     /// ```
     /// use entryreader::Refusal;
@@ -111,7 +106,7 @@ impl Refusal {
         self as u32
     }
 
-    /// What it means, in words; 1 and 3 to 5 of a sheet with two outcomes.
+    /// What it means, in words.
     ///
     /// ```
     /// use entryreader::Refusal;
@@ -158,26 +153,6 @@ impl Refusal {
             Refusal::Entries => {
                 "the old entry and the corrected one differ in length, or at a position other than the corrected byte's"
             }
-            Refusal::Combination => {
-                "m is not 1 to 8, l is over m, or an entry of g is not 1 to m, or not 0 where i or j is above m"
-            }
-        }
-    }
-
-    /// What it means of a sheet with more than two outcomes.
-    fn meaning_of_outcomes(self) -> &'static str {
-        match self {
-            Refusal::NotLines => {
-                "the sheet is empty, has over 257 lines, or is not lines of 55 columns that end with a line feed"
-            }
-            Refusal::Header => {
-                "the count of variables or the start is out of range, or the last seven fields are not 0"
-            }
-            Refusal::RuleVariable => {
-                "a line that is not that of the next variable, or a variable without one"
-            }
-            Refusal::Rule => "kind 1 or over 4, or operands that do not fit",
-            other => other.meaning(),
         }
     }
 
@@ -205,7 +180,6 @@ impl Refusal {
 pub struct Error {
     refusal: Refusal,
     line: Option<u32>,
-    meaning: &'static str,
 }
 
 impl Error {
@@ -216,22 +190,12 @@ impl Error {
         Error {
             refusal,
             line: (line != 0).then_some(line),
-            meaning: refusal.meaning(),
         }
     }
 
     /// The error of a call's code, 100 plus the number of a refusal.
     pub(crate) fn from_code(code: u32) -> Error {
         Error::new(code.saturating_sub(100), 0)
-    }
-
-    /// The same of a call about a sheet with more than two outcomes.
-    pub(crate) fn of_outcomes(code: u32) -> Error {
-        let error = Error::from_code(code);
-        Error {
-            meaning: error.refusal.meaning_of_outcomes(),
-            ..error
-        }
     }
 
     /// The same error, at a line.
@@ -278,7 +242,7 @@ impl fmt::Display for Error {
         if let Some(line) = self.line {
             write!(f, "line {line} of the {}: ", self.refusal.of_lines())?;
         }
-        f.write_str(self.meaning)
+        f.write_str(self.refusal.meaning())
     }
 }
 

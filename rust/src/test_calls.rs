@@ -99,23 +99,6 @@ pub use crate::calls::correct;
 /// ```
 pub use crate::calls::further;
 
-/// The question about a sheet with more than two outcomes, with the outcome's code, the named variable, the named position and the count of decided cells:
-///
-/// ```
-/// use entryreader::{outcomes::Combination, test_calls::outcomes};
-///
-/// let sheet = b"    1    1    2    1    0    0    0    0    0    0    0
-///     1    2   46    1    2    0    0    0    0    0    0
-/// ";
-/// let g = Combination::new(2, |_, j| j)?;
-/// let (mut table, mut work, mut answer) = ([0; 4], [0; 2], [0; 4]);
-/// assert_eq!(outcomes(sheet, b".", 1, 0, g.rows(), &mut table, &mut work, &mut answer), 0);
-/// assert_eq!(answer, [10, 0, 0, 1]);
-/// assert_eq!(outcomes(sheet, b".", 1, 0, &[[0; 8]; 8], &mut table, &mut work, &mut answer), 122);
-/// # Ok::<(), entryreader::Error>(())
-/// ```
-pub use crate::calls::outcomes;
-
 /// The code of a run whose moves are spent.
 ///
 /// ```

@@ -1,12 +1,9 @@
 //! The C header: a C program that is compiled against it puts the marked entries through every exported call, and prints what the calls of this package
 //! give; and the declarations in the header, in the package and in the source are the same.
-#[allow(dead_code)] // Other tests carry sheets over.
-#[path = "outcomes/carried.rs"]
-mod carried;
 #[allow(dead_code)] // Other tests ask the other cases.
 mod marked_cases;
 
-use entryreader::{Answer, Claim, Code, Error, Pair, Verdict, lent, outcomes};
+use entryreader::{Answer, Claim, Code, Error, Pair, Verdict, lent};
 use marked_cases::{BEHIND, CELLS, G, H, READING, STORED};
 use std::collections::BTreeMap;
 use std::fmt::Write as _;
@@ -68,7 +65,7 @@ fn looping(sheet: &'static str, entry: &'static str, question: [u32; 4], least: 
 }
 
 /// The marked entries, of which g and h loop and are empty; then a refused sheet, a refused entry and one that the tables are too short for; then case g
-/// with a byte, and a loop behind `66-`; then sheet H carried over, with the entries of a and f.
+/// with a byte, and a loop behind `66-`.
 fn cases() -> Vec<Case> {
     let mut cases: Vec<Case> = marked_cases::cases()
         .map(|case| Case {
@@ -84,20 +81,8 @@ fn cases() -> Vec<Case> {
     cases.push(refused((h, &LONG), 110));
     cases.push(looping(G, ".", [2, 1, 0, 1], 0));
     cases.push(looping(BEHIND, "66-.", [2, 5, 3, 9], 3));
-    // The first calls take no sheet of the other kind.
-    cases.extend([b"-6.", &b"x"[..]].map(|entry| refused((CARRIED.as_bytes(), entry), 101)));
     cases
 }
-
-/// Sheet H carried over: success is outcome 1, failure 2, missing 3.
-const CARRIED: &str = "    6    1    3    1    0    0    0    0    0    0    0
-    1    4    2    3    3    1    0    0    0    0    0
-    2    2   45    1    2    0    0    0    0    0    0
-    3    4    4    5    6    1    0    0    0    0    0
-    4    3    1    1    2    0    0    0    0    0    0
-    5    2   46    1    2    0    0    0    0    0    0
-    6    0    2    0    0    0    0    0    0    0    0
-";
 
 /// As many digits as there may be, and a full stop.
 const LONG: [u8; 4096] = {
@@ -190,17 +175,6 @@ fn answer_numbers(answer: Answer) -> [u32; 4] {
         Answer::Failure { cells } => [1, 0, 0, cells],
         Answer::Loop { named, cells } => of(2, named, cells),
         Answer::Missing { named, cells } => of(3, named, cells),
-    }
-}
-
-fn outcome_numbers(answer: outcomes::Answer) -> [u32; 4] {
-    match answer {
-        outcomes::Answer::Outcome {
-            outcome,
-            end,
-            cells,
-        } => [1 + outcome + 8 * end, 0, 0, cells],
-        outcomes::Answer::Loop { named, cells } => [1, named.variable, named.position, cells],
     }
 }
 
@@ -311,15 +285,6 @@ impl Printed {
         self.answer("further", found);
     }
 
-    fn outcomes(&mut self, sheet: &[u8], entry: &[u8]) {
-        self.fill();
-        let (table, work) = (&mut self.table, &mut self.work);
-        let found = lent::outcomes(sheet, entry, 1, 0, &carried::second(3), table, work);
-        let (code, numbers) = returned(found.map(outcome_numbers));
-        report(&mut self.text, "outcomes", code, &numbers);
-        self.table();
-    }
-
     fn reading(&mut self, sheet: &[u8], entry: &[u8]) {
         self.fill();
         let mut output = vec![7; 49 * 1024];
@@ -362,7 +327,6 @@ impl Printed {
         self.verdicts(&sheet, entry);
         self.opening(&sheet, entry);
         self.questions(&sheet, entry);
-        self.outcomes(&sheet, entry);
         self.reading(&sheet, entry);
         self.archive(entry);
     }
@@ -391,8 +355,6 @@ fn marked_entries_in_c() {
     assert!(text.contains(&cells_of_a()), "{text}");
     assert!(text.contains(&cells_behind()), "{text}");
     assert!(text.contains(&archive_of_a()), "{text}");
-    assert!(text.contains(&outcomes_of_a_and_f()[0]), "{text}");
-    assert!(text.contains(&outcomes_of_a_and_f()[1]), "{text}");
     for code in [103, 106, 120] {
         let mut refused = String::new();
         report(&mut refused, "store", code, &[7; 64]);
@@ -428,33 +390,6 @@ fn cells_of_a() -> String {
         print(&mut text, "table", &table);
     }
     text
-}
-
-/// Cases a and f by the sheet carried over: outcome 1 ending at 3, and outcome 2 at 0; 5 cells each, with the reaches of before.
-fn outcomes_of_a_and_f() -> [String; 2] {
-    let a = [
-        [26, 3, 0, 0, 0, 0, 0, 0],
-        [10, 1, 0, 0, 0, 0, 0, 0],
-        [0, 0, 26, 3, 0, 0, 0, 0],
-        [0, 0, 18, 2, 0, 0, 0, 0],
-        [0, 0, 0, 0, 26, 3, 0, 0],
-        [0; 8],
-    ];
-    let f = [
-        [3, 1, 0, 0],
-        [3, 1, 0, 0],
-        [3, 1, 0, 0],
-        [3, 1, 0, 0],
-        [0; 4],
-        [3, 0, 0, 0],
-    ];
-    [([26, 0, 0, 5], a.concat()), ([3, 0, 0, 5], f.concat())].map(|(numbers, mut table)| {
-        let mut text = String::new();
-        table.resize(64, 7);
-        report(&mut text, "outcomes", 0, &numbers);
-        print(&mut text, "table", &table);
-        text
-    })
 }
 
 /// Case a's table stored and restored.
@@ -550,13 +485,9 @@ fn types_in_header(parameter: &str) -> Vec<String> {
     let name_end = |c: char| !c.is_ascii_alphanumeric() && c != '_';
     let found = match parameter.split_once("(*") {
         Some((element, array)) => {
-            let pointer = match element {
-                "uint32_t " => "*mut",
-                "const uint32_t " => "*const",
-                _ => panic!("{parameter}"),
-            };
+            assert_eq!(element, "uint32_t ", "{parameter}");
             let length = array.split(['[', ']']).nth(1).expect("it has a length");
-            format!("{pointer} [u32; {length}]")
+            format!("*mut [u32; {length}]")
         }
         None => {
             let name = parameter.rfind(name_end).expect("it has a type") + 1;
@@ -593,7 +524,7 @@ fn declarations() {
         in_source,
         "header and source"
     );
-    assert_eq!(in_source.len(), 13, "{in_source:?}");
+    assert_eq!(in_source.len(), 12, "{in_source:?}");
     assert_eq!(in_source["entryreader_sheet"].len(), 4);
     assert_eq!(externs.matches(") -> u32;").count(), in_source.len());
     assert_eq!(header.matches(");\n").count(), in_source.len());

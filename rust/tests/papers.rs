@@ -105,22 +105,19 @@ fn files_in_papers() {
             files += 1;
         }
     }
-    assert_eq!(files, 9);
+    assert_eq!(files, 7);
 }
 
-/// The examples of the import print what the paper shows. Cargo builds them with the tests.
+/// The example of the import prints what the paper shows. Cargo builds it with the tests.
 #[test]
-fn imports_in_papers() {
+fn import_in_papers() {
     let paper = std::fs::read_to_string(docs().join("IMPORTING.md")).expect("it is there");
-    let blocks = blocks(&paper).into_iter();
-    let shown = blocks.filter(|(before, _)| before.ends_with("prints:"));
-    let shown: Vec<Vec<String>> = shown.map(|(_, block)| block).collect();
-    let examples = Path::new(env!("CARGO_BIN_EXE_explain")).with_file_name("examples");
-    let found = ["baptisms", "doubtful"].map(|name| {
-        let program = examples.join(name);
-        printed(program.to_str().expect("a path of text"), &[])
-    });
-    assert_eq!(shown, found);
+    let found = blocks(&paper)
+        .into_iter()
+        .find(|(before, _)| before.ends_with("prints:"));
+    let program = Path::new(env!("CARGO_BIN_EXE_explain")).with_file_name("examples/baptisms");
+    let program = program.to_str().expect("a path of text");
+    assert_eq!(found.expect("it is shown").1, printed(program, &[]));
 }
 
 /// What the papers say of entries that were cut off: which answers last, whatever is appended, by the reaches in the table; and what comes of more text.

@@ -18,5 +18,3 @@ pub mod Cells
 pub mod Depth
 pub mod Numbered
 pub mod Listed
-pub mod Coded
-pub mod Stack

@@ -1,3 +1,2 @@
 -- The numbers of cells are small.
 pub mod Numbers
-pub mod Cleared

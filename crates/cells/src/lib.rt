@@ -1,8 +1,8 @@
-// Cells of a lent table: what one holds, the number of a pair's cell, a caller as one number, blanking, and whether a table has cells enough.
-ghost use Rattle.std.specs.Prelude.{◌||◌, ◌≡◌, ◌++◌, ◌+◌, ◌*◌, ◌/◌, ◌%◌, max, ◌≤◌, eqb, ltb, length, drop, replicate};
+// Cells of a lent table: what one holds, the number of a pair's cell, a caller as one number, and blanking.
+ghost use Rattle.std.specs.Prelude.{◌≡◌, ◌++◌, ◌+◌, ◌/◌, ◌%◌, max, ◌≤◌, eqb, length, drop, replicate};
 ghost use Rattle.schema.specs.Cells.{held_at, reach_at, stored, HasCell};
 ghost use Rattle.schema.specs.Derivation.{◌at◌};
-ghost use Rattle.schema.specs.Table.{cell, cells};
+ghost use Rattle.schema.specs.Table.{cell};
 ghost use Rattle.cells.specs.Packed.{entry};
 
 // What a cell of the table holds: the number of an outcome (document 01: blank, failure, loop, missing, or success ending at a position), and its
@@ -123,16 +123,4 @@ pub fn blank(numbers: &mut [u32], size: usize)
         numbers[i] = 0;
         i += 1;
     }
-}
-
-// Refusal 10: the table has fewer than two numbers for each cell, or the work slice fewer than one.
-pub fn too_small(variables: u32, n: usize, table: usize, work: usize) -> bool
-    requires { (variables ≤ 256) × (n ≤ 4096) }
-    ensures { result ≡ (ltb table (2 * cells variables n) || ltb work (cells variables n)) }
-{
-    let size = variables as usize * (n + 1);
-    if table < 2 * size {
-        return true;
-    }
-    work < size
 }

@@ -7,8 +7,7 @@ use Rattle.columns.specs.Column.{leading, column, row, digits_after, number, fie
 use Rattle.classes.specs.Class.{class_in, class_of}
 use Rattle.grammar.specs.Refusal.{Checked, refused, accepted, checked}
 use Rattle.grammar.specs.Rule.{rule_of}
-use Rattle.grammar.specs.Lines.{open_line, not_lines}
-use Rattle.grammar.specs.Sheet.{line_at, rule_within, header_out, variable_out, condition, rule_order, sheet_order}
+use Rattle.grammar.specs.Sheet.{line_at, rule_within, open_line, not_lines, header_out, variable_out, condition, rule_order, sheet_order}
 use Rattle.grammar.specs.Printing.{text}
 use Rattle.schema.specs.Cases.{sheet_h, first_pair}
 use Rattle.schema.specs.Derivation.{act_of}

@@ -1,10 +1,10 @@
 // Questions over a table that was kept: about an entry of which one byte was corrected, and further ones about the same entry.
 ghost use Rattle.correction.specs.Correction.{CorrectionPromise};
 
-use cells::too_small;
 use comparison::differs_elsewhere;
 use finish::Answer;
 use grammar::sheet::{Rules, Sheet};
+use memo::too_small;
 use passes::retain;
 use rules::admit;
 use walk::ask_over;

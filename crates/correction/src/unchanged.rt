@@ -1,9 +1,9 @@
 // Further questions about an input that has not changed.
 ghost use Rattle.correction.specs.Further.{FurtherPromise};
 
-use cells::too_small;
 use finish::Answer;
 use grammar::sheet::{Rules, Sheet};
+use memo::too_small;
 use passes::cells_out;
 use rules::admit;
 use walk::ask_over;

@@ -6,4 +6,3 @@ pub mod Demand1
 pub mod Shortened
 pub mod Opened
 pub mod Archived
-pub mod Outcomes

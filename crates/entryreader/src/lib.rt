@@ -6,7 +6,6 @@ ghost use Rattle.archive.specs.Archive.{told as moves};
 ghost use Rattle.opening.specs.Opening.{told as opens};
 ghost use Rattle.shorthand.specs.Promise.{told};
 ghost use Rattle.verdict.specs.Verdict.{numbers};
-ghost use Rattle.outcome_question.specs.Numbers.{OutcomesNumbers};
 ghost use Rattle.reports.specs.Numbers.{WriterNumbers, CheckNumbers};
 ghost use Rattle.entryreader.specs.Codes.{sheet_numbers, SheetNumbers, code_of, VerdictCode, JudgeNumbers, QuestionNumbers, CorrectionNumbers, FurtherNumbers, length_numbers, ShorthandNumbers};
 ghost use Rattle.entryreader.specs.Archived.{StoreNumbers, RestoreNumbers};
@@ -15,7 +14,6 @@ ghost use Rattle.entryreader.specs.Opened.{opening_numbers, OpeningNumbers};
 use archive::Stored;
 use grammar::sheet::{Rules, Sheet, read_sheet};
 use opening::Prefix;
-use outcome_question::report_outcomes;
 use reports::{report, report_check, report_write};
 use shorthand::Compiled;
 use verdict::{Judgement, numbers_of};
@@ -106,24 +104,6 @@ pub extern "C" fn entryreader_question(
 {
     let found = memo::question(sheet, input, variable, position, table, work);
     report(found, answer)
-}
-
-// The question over the multiple failure schema, with the 64 entries of its table g, row after row: 0, with the cell's code, the named variable, the named
-// position and the count of decided cells in the answer; or 100 plus the number of a refusal, with nothing changed.
-#[unsafe(no_mangle)]
-pub extern "C" fn entryreader_outcomes(
-    sheet: &[u8],
-    input: &[u8],
-    variable: u32,
-    position: u32,
-    g: &[u32; 64],
-    table: &mut [u32],
-    work: &mut [u32],
-    answer: &mut [u32; 4],
-) -> u32
-    ensures { OutcomesNumbers sheet.now input.now variable position g.now table.old table.new work.old work.new answer.old answer.new result }
-{
-    report_outcomes(sheet, input, variable, position, g, table, work, answer)
 }
 
 // A question about an input of which the byte at c was corrected, over a table that was kept of the old input: as the

@@ -1,2 +1,4 @@
 -- Laws of the end of a question.
+pub mod Entry
+pub mod Closing
 pub mod Finished

@@ -3,11 +3,9 @@ use Rattle.std.specs.Prelude.{List, ◌≢◌, ◌≡◌, ℕ, ◌*◌, ◌≤�
 use Rattle.grammar.specs.Refusal.{accepted}
 use Rattle.schema.specs.Cells.{held_at}
 use Rattle.schema.specs.Table.{cells, code}
-use Rattle.step.specs.Codes.{Code}
-use Rattle.trail.specs.State.{open_mark}
+use Rattle.step.specs.Codes.{Code, open_mark}
 use Rattle.finish.specs.Reply.{reply, told}
-use Rattle.finish.specs.Ended.{outcome_of, named_of}
-use Rattle.trail.specs.Closing.{CloseReady, Closes}
+use Rattle.finish.specs.Closing.{outcome_of, named_of, CloseReady, Closes}
 use Rattle.finish.specs.declared.Answer.{Answer}
 use Rattle.step.specs.declared.Walk.{Walk}
 use Rattle.step.specs.declared.Walk.TheVariants as walk

@@ -1,4 +1,4 @@
 -- How a question ends: what is closed, and what is answered.
 pub mod Reply
-pub mod Ended
+pub mod Closing
 pub mod Finish

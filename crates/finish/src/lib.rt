@@ -2,13 +2,14 @@
 ghost use Rattle.std.specs.Prelude.{◌≡◌};
 ghost use Rattle.grammar.specs.Refusal.{accepted};
 ghost use Rattle.schema.specs.Derivation.{◌at◌, result};
+ghost use Rattle.schema.specs.Table.{cells};
 ghost use Rattle.step.specs.Codes.{Code, result_of};
 ghost use Rattle.finish.specs.Reply.{told, reply};
+ghost use Rattle.finish.specs.Closing.{CloseReady, Closes};
 ghost use Rattle.finish.specs.Finish.{FinishReady, Finishes};
 
-use cells::Cell;
+use cells::{Caller, Cell, cell_number};
 use step::Walk;
-use trail::close;
 
 // What a question is answered, with the count of decided cells: success with its end, failure; loop or a missing rule
 // with the variable and the position that are named; or the number and the line of a refusal.
@@ -19,6 +20,35 @@ pub enum Answer {
     Loop(u32, u32, u32),
     Missing(u32, u32, u32),
     Refused(u32, u32),
+}
+
+// Stores an outcome in every open cell, from that of b at q back to the asked pair, by the callers in the work slice.
+fn close(
+    n: usize,
+    variables: u32,
+    b: u32,
+    q: u32,
+    depth: usize,
+    outcome: Cell,
+    table: &mut [u32],
+    work: &[u32],
+)
+    requires { CloseReady n variables b q depth outcome.0 outcome.1 table.old work.now }
+    ensures* { λ _. ⌜ Closes (cells variables n) outcome.0 table.old table.new ⌝ }
+{
+    let mut a = b;
+    let mut p = q;
+    let mut left = depth;
+    loop {
+        outcome.store(table, cell_number(n, a, p));
+        if left == 0 {
+            return;
+        }
+        left -= 1;
+        let caller = Caller::unpack(work[left]);
+        a = caller.variable;
+        p = caller.position;
+    }
 }
 
 // The answer of the number of a result.

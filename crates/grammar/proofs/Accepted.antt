@@ -15,8 +15,7 @@ use Rattle.grammar.specs.Printing.{rule_numbers}
 use Rattle.grammar.proofs.Refusals.{accepted_same, accepted_none}
 use Rattle.grammar.proofs.Fitting.{within_bounds}
 use Rattle.grammar.proofs.Progress.{VariableFits, not_out}
-use Rattle.grammar.proofs.Ends.{Whole, lines_whole}
-use Rattle.grammar.proofs.Whole.{InRange, header_in_range}
+use Rattle.grammar.proofs.Whole.{Whole, lines_whole, InRange, header_in_range}
 
 -- A rule line that is accepted.
 pub record LineFits (s : List ℕ) (n : ℕ) : Type 0 where
@@ -43,7 +42,7 @@ lines_fit s n (suc k) c (suc i) l =
 -- All that an accepted sheet is.
 pub record Describes (s : List ℕ) (g : Grammar) : Type 0 where
   pub grammar_is : grammar_of s ≡ g
-  pub whole : Whole 26 s
+  pub whole : Whole s
   pub formed : malformed s 1 ≡ false
   pub in_range : InRange s
   pub fit : (i : ℕ) → i < lines s - 1 → LineFits s (i + 2)
@@ -54,7 +53,7 @@ describes s g e =
     let c = accepted_none (condition s) (sheet_order s) (grammar_of s) g e in
     record {
       grammar_is = accepted_same (condition s) (sheet_order s) (grammar_of s) g e;
-      whole = lines_whole 26 s c.0;
+      whole = lines_whole s c.0;
       formed = c.1.0;
       in_range = header_in_range s c.1.1.0;
       fit = lines_fit s 2 (lines s - 1) c.1.1.1;

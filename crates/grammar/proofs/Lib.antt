@@ -15,4 +15,3 @@ pub mod Listed
 pub mod Printed
 pub mod Sheets
 pub mod SheetRefusals
-pub mod LineRead

@@ -9,10 +9,9 @@ use lib.Dec.{eqb}
 use lib.ListN.{length, get_or, length-map}
 use borrow.Author.Tests.{eqb-true, ne_eqb, lt-leb}
 use Rattle.columns.proofs.Rows.{Fit}
-use Rattle.grammar.specs.Lines.{not_lines}
 use Rattle.grammar.specs.Refusal.{accepted}
 use Rattle.grammar.specs.Rule.{Rule, absent, always, never, byte, class, call, rule_of, Fits}
-use Rattle.grammar.specs.Sheet.{lines, line_at, variables_of, variable_at, variable_before, rule_at, rule_within, grammar_of, malformed, header_out, variable_out, condition, rule_order, sheet_order, sheet}
+use Rattle.grammar.specs.Sheet.{lines, line_at, variables_of, variable_at, variable_before, rule_at, rule_within, grammar_of, not_lines, malformed, header_out, variable_out, condition, rule_order, sheet_order, sheet}
 use Rattle.grammar.specs.Order.{NoneHolds}
 use Rattle.grammar.specs.Printing.{text, header_numbers, rule_numbers, rule_rows, printed, listed, listed_grammar, Rising, Printable}
 use Rattle.grammar.proofs.Fitting.{within_both}
@@ -55,7 +54,7 @@ has_rule s n A r xs w e = record { formed = rw e; variable_is = rw e w.variable_
 
 -- ---- The rules of a list, on the lines from n on, of the variables above b.
 
-rows_fit : (v b : ℕ) (rs : List (ℕ × Rule)) → v ≤ 256 → Rising v b rs → Lines 5 (rule_rows rs)
+rows_fit : (v b : ℕ) (rs : List (ℕ × Rule)) → v ≤ 256 → Rising v b rs → Lines (rule_rows rs)
 rows_fit v b [] few h = tt
 rows_fit v b (r ∷ rs) few h =
     let w = rule_row v r.0 r.1 few h.1 h.2 h.3 in
@@ -66,11 +65,11 @@ rows_few v b [] l h = omega arith
 rows_few v b (r ∷ rs) l h = let k = rows_few v r.0 rs h.1 h.4 in omega arith
 
 module _ (s : List ℕ) (few : variables_of s ≤ 256) where
-  here : (n b : ℕ) (r : ℕ × Rule) (rs : List (ℕ × Rule)) → Rising (variables_of s) b (r ∷ rs) → LinesAt (line_at s) n (rule_rows (r ∷ rs)) → HasRule s n r.0 r.1
+  here : (n b : ℕ) (r : ℕ × Rule) (rs : List (ℕ × Rule)) → Rising (variables_of s) b (r ∷ rs) → LinesAt s n (rule_rows (r ∷ rs)) → HasRule s n r.0 r.1
   here n b r rs h t = has_rule s n r.0 r.1 _ (rule_row (variables_of s) r.0 r.1 few h.1 h.2 h.3) t.0
 
   -- No line is refused.
-  rules_clear : (n b : ℕ) (rs : List (ℕ × Rule)) → 2 ≤ n → variable_before s n ≡ b → Rising (variables_of s) b rs → LinesAt (line_at s) n (rule_rows rs)
+  rules_clear : (n b : ℕ) (rs : List (ℕ × Rule)) → 2 ≤ n → variable_before s n ≡ b → Rising (variables_of s) b rs → LinesAt s n (rule_rows rs)
       → NoneHolds (condition s) (rule_order n (length rs))
   unfolding rule_order condition variable_out
   rules_clear n b [] low e h t = tt
@@ -89,11 +88,11 @@ module _ (s : List ℕ) (few : variables_of s ≤ 256) where
   unfolding rule_within
   one_more k A r w = rw (w.variable_is, w.rule_is)
 
-  behind : (k : ℕ) (rs : List (ℕ × Rule)) → LinesAt (line_at s) (suc (k + 2)) (rule_rows rs) → LinesAt (line_at s) (suc k + 2) (rule_rows rs)
+  behind : (k : ℕ) (rs : List (ℕ × Rule)) → LinesAt s (suc (k + 2)) (rule_rows rs) → LinesAt s (suc k + 2) (rule_rows rs)
   behind k rs t = let e : suc (k + 2) ≡ suc k + 2 = omega arith in rw e at t
 
   -- A variable that is not above b has no rule on these lines.
-  rules_below : (k b A : ℕ) (rs : List (ℕ × Rule)) → A ≤ b → Rising (variables_of s) b rs → LinesAt (line_at s) (k + 2) (rule_rows rs)
+  rules_below : (k b A : ℕ) (rs : List (ℕ × Rule)) → A ≤ b → Rising (variables_of s) b rs → LinesAt s (k + 2) (rule_rows rs)
       → rule_within s (length rs + k) A ≡ rule_within s k A
   rules_below k b A [] l h t = let z : 0 + k ≡ k = omega arith in rw z
   rules_below k b A (r ∷ rs) l h t =
@@ -102,7 +101,7 @@ module _ (s : List ℕ) (few : variables_of s ≤ 256) where
       (rules_below (suc k) r.0 A rs (omega arith) h.4 (behind k rs t.1) ∙ one_more k A r (here (k + 2) b r rs h t) ∙ rw (ne_eqb A r.0 (λ e. omega arith)))
 
   -- The rule of a variable that has none on the lines before is the one of the list.
-  rules_listed : (k b A : ℕ) (rs : List (ℕ × Rule)) → rule_within s k A ≡ absent → Rising (variables_of s) b rs → LinesAt (line_at s) (k + 2) (rule_rows rs)
+  rules_listed : (k b A : ℕ) (rs : List (ℕ × Rule)) → rule_within s k A ≡ absent → Rising (variables_of s) b rs → LinesAt s (k + 2) (rule_rows rs)
       → rule_within s (length rs + k) A ≡ listed rs A
   unfolding listed
   rules_listed k b A [] e h t = let z : 0 + k ≡ k = omega arith in rw z e
@@ -123,7 +122,7 @@ module _ (s : List ℕ) (few : variables_of s ≤ 256) where
 -- ---- The whole sheet.
 
 module _ {v start endmarker : ℕ} {rules : List (ℕ × Rule)} (p : Printable v start endmarker rules) where
-  text_rows : Lines 5 (header_numbers v start endmarker ∷ rule_rows rules)
+  text_rows : Lines (header_numbers v start endmarker ∷ rule_rows rules)
   text_rows =
       let a = p.variables_in in
       let b = p.start_in in
@@ -131,8 +130,8 @@ module _ {v start endmarker : ℕ} {rules : List (ℕ × Rule)} (p : Printable v
       (refl, omega arith, rows_fit v 0 rules a.1 p.rules_in)
 
   -- Lines that are read as the numbers of a grammar are that grammar's sheet.
-  lines_printed : (s : List ℕ) → not_lines 26 s ≡ false → lines s - 1 ≡ length rules → line_at s 1 ≡ some (header_numbers v start endmarker)
-      → LinesAt (line_at s) 2 (rule_rows rules) → sheet s ≡ accepted (listed_grammar v start endmarker rules)
+  lines_printed : (s : List ℕ) → not_lines s ≡ false → lines s - 1 ≡ length rules → line_at s 1 ≡ some (header_numbers v start endmarker)
+      → LinesAt s 2 (rule_rows rules) → sheet s ≡ accepted (listed_grammar v start endmarker rules)
   unfolding sheet sheet_order condition header_out rule_within
   lines_printed s whole count line rest =
       let a = p.variables_in in
@@ -152,12 +151,12 @@ module _ {v start endmarker : ℕ} {rules : List (ℕ × Rule)} (p : Printable v
 
   -- A sheet that is printed from a grammar is read as that grammar.
   pub printed_read : sheet (printed v start endmarker rules) ≡ accepted (listed_grammar v start endmarker rules)
-  unfolding printed line_at
+  unfolding printed
   printed_read =
       let rows = header_numbers v start endmarker ∷ rule_rows rules in
       let few = p.variables_in.1 in
       let n : length (rule_rows rules) ≡ length rules = length-map rules (λ r. rule_numbers r.0 r.1) in
       let m : length rules + 0 ≤ v = rows_few v 0 rules (omega arith) p.rules_in in
-      let l = text_lines 5 26 refl rows text_rows in
-      let read = text_read 5 26 refl rows text_rows in
-      lines_printed (text rows) (text_ended 5 26 refl rows text_rows (omega arith) (omega arith)) (omega arith) read.0 read.1
+      let l = text_lines rows text_rows in
+      let read = text_read rows text_rows in
+      lines_printed (text rows) (text_ended rows text_rows (omega arith) (omega arith)) (omega arith) read.0 read.1

@@ -51,7 +51,7 @@ module _ (s : List ℕ) where
   record Lined (n k : ℕ) : Type 0 where
     count : length (rules_from n k) ≡ k
     rising : Rising (variables_of s) (variable_before s n) (rules_from n k)
-    rows : LinesAt (line_at s) n (rule_rows (rules_from n k))
+    rows : LinesAt s n (rule_rows (rules_from n k))
 
   lined : (n k : ℕ) → 2 ≤ n → ((i : ℕ) → i < k → LineFits s (i + n)) → Lined n k
   unfolding rules_from
@@ -91,13 +91,13 @@ module _ (s : List ℕ) (g : Grammar) (e : sheet s ≡ accepted g) where
       five_numbers s 1 whole.formed ∙ rw (r.fourth_unused, r.fifth_unused)
 
   prints : s ≡ printed (variables_of s) (start_of s) (endmarker_of s) rules
-  unfolding printed line_at
+  unfolding printed
   prints =
       let w = whole.whole in
       let n = length-map rules (λ r. rule_numbers r.0 r.1) in
       let m = rule_lines.count in
       let k : 0 + suc (length (rule_rows rules)) ≡ lines s = omega arith in
-      lines_text_law 5 26 refl s 0 (header_numbers (variables_of s) (start_of s) (endmarker_of s) ∷ rule_rows rules) (header, rule_lines.rows) (rw k w.full_lines) (rw k w.ended_lines)
+      lines_text_law s 0 (header_numbers (variables_of s) (start_of s) (endmarker_of s) ∷ rule_rows rules) (header, rule_lines.rows) (rw k w.full_lines) (rw k w.ended_lines)
 
   same : listed_grammar (variables_of s) (start_of s) (endmarker_of s) rules ≡ g
   same = let p = printed_read printable in let q = ap sheet prints in cc

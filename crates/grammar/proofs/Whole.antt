@@ -1,19 +1,44 @@
 -- The whole sheet: its lines, line 1, and the rule lines. Assumes nothing.
-use mathlib.Core.Path.{◌≡◌, ap, sym, ◌∙◌}
-use mathlib.Core.Bool.{true, false, and-eq-true_iff}
+use mathlib.Core.Path.{◌≡◌, refl, ap, sym, ◌∙◌}
+use mathlib.Core.Bool.{Bool, true, false, not, ◌||◌, false≢true, and-eq-true_iff}
 use mathlib.Core.List.{List, [], ◌∷◌}
-use Prim.Native.Nat.{ℕ, ◌-◌, ◌≤◌}
-use borrow.Author.Tests.{eqb-true, not-false}
-use Rattle.grammar.specs.Lines.{not_lines}
+use Prim.Native.Nat.{ℕ, ◌-◌, ◌*◌, ◌%◌, ◌≤◌}
+use native.Mathlib.Omega.{arith}
+use lib.Dec.{eqb, ltb}
+use lib.ListN.{length}
+use borrow.Author.Tests.{eqb-true, eqb-false, ltb-false, not-false}
 use Rattle.grammar.specs.Refusal.{Checked, refused, accepted, checked}
 use Rattle.grammar.specs.Rule.{within, unused}
-use Rattle.grammar.specs.Sheet.{lines, variables_of, start_of, endmarker_of, number_at, grammar_of, header_out, rule_within, condition, header_order, rule_order, sheet_order, sheet}
+use Rattle.grammar.specs.Sheet.{lines, variables_of, start_of, endmarker_of, number_at, grammar_of, open_line, not_lines, header_out, rule_within, condition, header_order, rule_order, sheet_order, sheet}
 use Rattle.grammar.specs.Words.{words}
 use Rattle.grammar.specs.Reading.{header_found, rules_found}
 use Rattle.grammar.specs.Promise.{told, SheetPromise}
 use Rattle.grammar.specs.declared.sheet.Sheet.{Sheet}
 use Rattle.grammar.proofs.Refusals.{then, accepted_same, accepted_none, checked_then, checked_whatever}
 use Rattle.grammar.proofs.Fitting.{within_bounds}
+
+-- Lines that are whole.
+pub record Whole (s : List ℕ) : Type 0 where
+  pub some_lines : 1 ≤ lines s
+  pub few_lines : lines s ≤ 257
+  pub full_lines : length s ≡ 26 * lines s
+  pub ended_lines : open_line s (lines s) ≡ false
+
+pub lines_whole : (s : List ℕ) → not_lines s ≡ false → Whole s
+unfolding not_lines
+lines_whole s e = go (eqb (length s) 0) (eqb (length s % 26) 0) (ltb 257 (lines s)) (open_line s (lines s)) refl refl refl refl e
+  where
+    go : (a b c d : Bool) → eqb (length s) 0 ≡ a → eqb (length s % 26) 0 ≡ b → ltb 257 (lines s) ≡ c → open_line s (lines s) ≡ d
+        → (a || not b || c || d) ≡ false → Whole s
+    go true b c d p q r t f = absurd (false≢true (sym f))
+    go false false c d p q r t f = absurd (false≢true (sym f))
+    go false true true d p q r t f = absurd (false≢true (sym f))
+    go false true false true p q r t f = absurd (false≢true (sym f))
+    go false true false false p q r t f =
+        let n = eqb-false (length s) 0 p in
+        let m = eqb-true (length s % 26) 0 q in
+        let k = ltb-false 257 (lines s) r in
+        record { some_lines = omega arith; few_lines = k; full_lines = omega arith; ended_lines = t }
 
 -- Line 1 that is accepted.
 pub record HeaderRead (s : List ℕ) (v start endmarker : ℕ) : Type 0 where
@@ -55,26 +80,26 @@ header_in_range s e =
 
 -- ---- What the parts make of the whole.
 
-pub sheet_not_lines : (s : List ℕ) → true ≡ not_lines 26 s → sheet s ≡ refused 1 0
+pub sheet_not_lines : (s : List ℕ) → true ≡ not_lines s → sheet s ≡ refused 1 0
 unfolding sheet sheet_order checked condition
 sheet_not_lines s e = rw (← e)
 
 -- Line 1, and then the rule lines.
-sheet_parts : (s : List ℕ) → false ≡ not_lines 26 s → sheet s ≡ then (header_found s) (then (rules_found s) (accepted (grammar_of s)))
+sheet_parts : (s : List ℕ) → false ≡ not_lines s → sheet s ≡ then (header_found s) (then (rules_found s) (accepted (grammar_of s)))
 unfolding sheet sheet_order checked condition header_found rules_found
 sheet_parts s n =
     rw (← n)
     (checked_then (condition s) header_order (rule_order 2 (lines s - 1)) _ (grammar_of s)
     ∙ ap (then (header_found s)) (checked_whatever (condition s) (rule_order 2 (lines s - 1)) tt (grammar_of s)))
 
-pub sheet_header_refused : (s : List ℕ) (x : ℕ) → false ≡ not_lines 26 s → refused x 1 ≡ header_found s → sheet s ≡ refused x 1
+pub sheet_header_refused : (s : List ℕ) (x : ℕ) → false ≡ not_lines s → refused x 1 ≡ header_found s → sheet s ≡ refused x 1
 sheet_header_refused s x n e = sheet_parts s n ∙ rw (← e)
 
-pub sheet_rules_refused : (s : List ℕ) {v start endmarker x l : ℕ} → false ≡ not_lines 26 s → HeaderRead s v start endmarker → refused x l ≡ rules_found s
+pub sheet_rules_refused : (s : List ℕ) {v start endmarker x l : ℕ} → false ≡ not_lines s → HeaderRead s v start endmarker → refused x l ≡ rules_found s
     → sheet s ≡ refused x l
 sheet_rules_refused s n h e = sheet_parts s n ∙ rw (← h.says, ← e)
 
-pub sheet_accepted : (s : List ℕ) {v start endmarker : ℕ} → false ≡ not_lines 26 s → HeaderRead s v start endmarker → accepted tt ≡ rules_found s
+pub sheet_accepted : (s : List ℕ) {v start endmarker : ℕ} → false ≡ not_lines s → HeaderRead s v start endmarker → accepted tt ≡ rules_found s
     → sheet s ≡ accepted (grammar_of s)
 sheet_accepted s n h e = sheet_parts s n ∙ rw (← h.says, ← e)
 

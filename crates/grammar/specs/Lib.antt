@@ -2,7 +2,6 @@
 pub mod Refusal
 pub mod Order
 pub mod Rule
-pub mod Lines
 pub mod Sheet
 pub mod Printing
 pub mod Words

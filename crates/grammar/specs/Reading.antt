@@ -1,5 +1,5 @@
 -- What the steps of reading a sheet find. Assumes nothing.
-use Rattle.std.specs.Prelude.{Bool, true, false, cond, List, [], ◌∷◌, ◌≡◌, ℕ, ◌+◌, ◌-◌, ◌≤◌}
+use Rattle.std.specs.Prelude.{cond, List, [], ◌∷◌, ◌≡◌, ℕ, ◌+◌, ◌-◌, ◌≤◌}
 use Rattle.std.proofs.Math.Option.{Option, none, some, get_or}
 use Rattle.grammar.specs.Refusal.{Checked, refused, accepted, checked}
 use Rattle.grammar.specs.Rule.{absent, within}
@@ -15,11 +15,6 @@ use Rattle.grammar.specs.declared.sheet.RuleLine.{RuleLine}
 use Rattle.grammar.specs.declared.sheet.RuleLine.TheVariants as line
 use Rattle.grammar.specs.declared.sheet.RuleLines.{RuleLines}
 use Rattle.grammar.specs.declared.sheet.RuleLines.TheVariants as rules
-
--- The fields are read as these numbers, or not all of them are of the form.
-pub record LineRead (r : Bool) (numbers : List ℕ) (line : Option (List ℕ)) : Type 0 where
-  pub read : r ≡ true → line ≡ some numbers
-  pub fault : r ≡ false → line ≡ none
 
 -- The numbers of a line.
 abbrev pub numbers_of : Line → Option (List ℕ)

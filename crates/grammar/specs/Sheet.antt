@@ -1,9 +1,8 @@
 -- Document 01, "The rule sheet", with refusals 1 to 5. Assumes nothing.
-use Rattle.std.specs.Prelude.{Bool, true, false, cond, not, ◌&&◌, ◌||◌, List, [], ◌∷◌, ◌++◌, ℕ, zero, suc, ◌+◌, ◌-◌, ◌*◌, leb, eqb, get_or}
+use Rattle.std.specs.Prelude.{Bool, true, false, cond, not, ◌&&◌, ◌||◌, List, [], ◌∷◌, ◌++◌, ℕ, zero, suc, ◌+◌, ◌-◌, ◌*◌, ◌/◌, ◌%◌, ltb, leb, eqb, length, get_or}
 use Rattle.std.proofs.Math.Option
 use Rattle.std.proofs.Math.Option.{Option, none, some}
 use Rattle.columns.specs.Column.{fields}
-use Rattle.grammar.specs.Lines.{lines_of, not_lines}
 use Rattle.grammar.specs.Refusal.{Checked, checked}
 use Rattle.grammar.specs.Rule.{Rule, absent, within, unused, rule_of}
 
@@ -11,7 +10,7 @@ use Rattle.grammar.specs.Rule.{Rule, absent, within, unused, rule_of}
 
 -- "A sheet line is five fields of 5 columns and byte 10, so 26 bytes."
 abbrev pub lines : List ℕ → ℕ
-lines s = lines_of 26 s
+lines s = length s / 26
 
 -- The five numbers of a line, if its fields are of the form.
 unfoldable pub line_at : List ℕ → ℕ → Option (List ℕ)
@@ -72,6 +71,15 @@ grammar_of s = record { variables = variables_of s; start = start_of s; endmarke
 
 -- ---- The conditions of refusals 1 to 5.
 
+-- "a line without byte 10 at its end", among the first k lines.
+unfoldable pub open_line : List ℕ → ℕ → Bool
+open_line s zero = false
+open_line s (suc k) = open_line s k || not (eqb (get_or s (26 * k + 25) 0) 10)
+
+-- "1, length 0, not a multiple of 26, over 257 lines, or a line without byte 10 at its end"
+unfoldable pub not_lines : List ℕ → Bool
+not_lines s = eqb (length s) 0 || not (eqb (length s % 26) 0) || ltb 257 (lines s) || open_line s (lines s)
+
 -- "2, a field not as above"
 abbrev pub malformed : List ℕ → ℕ → Bool
 malformed s line = is_none (line_at s line)
@@ -93,7 +101,7 @@ rule_out s line = is_none (rule_at s line)
 -- The condition of a refusal by its number, at a line.
 unfoldable pub condition : List ℕ → ℕ → ℕ → Bool
 condition s number line =
-    cond (eqb number 1) (not_lines 26 s)
+    cond (eqb number 1) (not_lines s)
     (cond (eqb number 2) (malformed s line)
     (cond (eqb number 3) (header_out s)
     (cond (eqb number 4) (variable_out s line)

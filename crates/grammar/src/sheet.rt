@@ -4,8 +4,8 @@ ghost use Rattle.std.proofs.Math.Option.{map};
 ghost use Rattle.columns.specs.Column.{fields};
 ghost use Rattle.grammar.specs.Rule.{rule_of};
 ghost use Rattle.grammar.specs.Words.{four_bytes, word};
-ghost use Rattle.grammar.specs.Lines.{open_line, not_lines};
-ghost use Rattle.grammar.specs.Reading.{LineRead, numbers_of, word_of, leaf_word, header_says, header_found, line_says, line_found, Before, rules_say, rules_found, Ready, Stored};
+ghost use Rattle.grammar.specs.Sheet.{not_lines, open_line};
+ghost use Rattle.grammar.specs.Reading.{numbers_of, word_of, leaf_word, header_says, header_found, line_says, line_found, Before, rules_say, rules_found, Ready, Stored};
 ghost use Rattle.grammar.specs.Promise.{SheetPromise};
 
 use columns::{Cursor, Field};
@@ -63,24 +63,25 @@ enum RuleLines {
     Refused(u32, u32),
 }
 
-// As many fields of a line as there are numbers, one after another; whether all are of the form.
-pub fn read_fields(line: &[u8], numbers: &mut [u32]) -> bool
-    ensures { LineRead result numbers.new (fields (length numbers.old) 5 line.now 0) }
+// The five fields of a line, one after another.
+fn read_fields(line: &[u8]) -> Line
+    ensures { numbers_of result ≡ fields 5 5 line.now 0 }
 {
+    let mut numbers = [0u32; 5];
     let mut here = Cursor { at: 0 };
     let mut k: usize = 0;
-    while k < numbers.len() {
+    while k < 5 {
         let Field::Number(x, next) = here.five(line) else {
-            return false;
+            return Line::Malformed;
         };
         numbers[k] = x;
         here = next;
         k += 1;
     }
-    true
+    Line::Numbers(numbers[0], numbers[1], numbers[2], numbers[3], numbers[4])
 }
 
-// The five fields of the line that begins at a position.
+// The fields of the line that begins at a position. They are read from a part of 25 columns, so that the compiler knows them to be there.
 fn read_line(s: &[u8], at: usize) -> Line
     ensures { numbers_of result ≡ fields 5 5 s.now at }
 {
@@ -90,21 +91,17 @@ fn read_line(s: &[u8], at: usize) -> Line
     if s.len() - 25 < at {
         return Line::Malformed;
     }
-    let mut numbers = [0u32; 5];
-    if !read_fields(&s[at..at + 25], &mut numbers) {
-        return Line::Malformed;
-    }
-    Line::Numbers(numbers[0], numbers[1], numbers[2], numbers[3], numbers[4])
+    read_fields(&s[at..at + 25])
 }
 
-// Is there, among the first lines of this width, one without byte 10 at its end?
-fn open_line(s: &[u8], width: usize, count: usize) -> bool
-    requires { (1 ≤ width) × (width * count ≤ length s.now) }
-    ensures { result ≡ open_line width s.now count }
+// Is there a line without byte 10 at its end?
+fn open_line(s: &[u8], count: usize) -> bool
+    requires { (26 * count ≤ length s.now) × (count ≤ 257) }
+    ensures { result ≡ open_line s.now count }
 {
     let mut k: usize = 0;
     while k < count {
-        if s[width * k + (width - 1)] != 10 {
+        if s[26 * k + 25] != 10 {
             return true;
         }
         k += 1;
@@ -112,21 +109,20 @@ fn open_line(s: &[u8], width: usize, count: usize) -> bool
     false
 }
 
-// Refusal 1, of lines of this width.
-pub fn not_lines(s: &[u8], width: usize) -> bool
-    requires { 1 ≤ width }
-    ensures { result ≡ not_lines width s.now }
+// Refusal 1.
+fn not_lines(s: &[u8]) -> bool
+    ensures { result ≡ not_lines s.now }
 {
     if s.len() == 0 {
         return true;
     }
-    if s.len() % width != 0 {
+    if s.len() % 26 != 0 {
         return true;
     }
-    if 257 < s.len() / width {
+    if 257 < s.len() / 26 {
         return true;
     }
-    open_line(s, width, s.len() / width)
+    open_line(s, s.len() / 26)
 }
 
 // Line 1, for refusals 2 and 3.
@@ -159,7 +155,7 @@ fn read_header(s: &[u8]) -> Header
 }
 
 // Is x among low to high?
-pub fn within(low: u32, high: u32, x: u32) -> bool
+fn within(low: u32, high: u32, x: u32) -> bool
     ensures { result ≡ Rattle.grammar.specs.Rule.within low high x }
 {
     if x < low {
@@ -280,7 +276,7 @@ fn read_rules(s: &[u8], variables: u32, count: usize, rules: &mut Rules) -> Rule
 pub fn read_sheet(s: &[u8], rules: &mut Rules) -> Sheet
     ensures { SheetPromise s.now rules.old rules.new result }
 {
-    if not_lines(s, 26) {
+    if not_lines(s) {
         return Sheet::Refused(1, 0);
     }
     match read_header(s) {

@@ -14,9 +14,8 @@ use Rattle.finish.specs.Reply.{Reply, reply}
 use Rattle.memo.specs.Answer.{Says}
 use Rattle.memo.specs.Ask.{AskReady}
 use Rattle.walk.specs.Over.{OverReady, Over}
-use Rattle.cells.proofs.Cleared.{cleared, cleared_length, cleared_held, cleared_reach, cleared_later}
-use Rattle.walk.proofs.RightTable.{blank_right}
-use Rattle.trail.proofs.Decided.{decided_zero}
+use Rattle.walk.proofs.Cleared.{cleared, cleared_length, cleared_held, cleared_reach, cleared_later, blank_right}
+use Rattle.walk.proofs.Decided.{decided_zero}
 
 module _ {rule : ℕ → Rule} {s : List ℕ} {v A p : ℕ} {T W : List ℕ} (r : AskReady rule s v A p T W) {T₁ : List ℕ} (e : T₁ ≡ cleared (2 * cells v (length s)) T) where
   abbrev N : ℕ

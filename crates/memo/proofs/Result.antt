@@ -4,6 +4,7 @@ use mathlib.Core.Logic.{◌≢◌, ◌↔◌}
 use mathlib.Core.List.{List}
 use Prim.Native.Nat.{ℕ, zero, suc, ◌+◌, ◌/◌, ◌%◌, ◌≤◌, ◌<◌}
 use native.Mathlib.Decide.{ℕ_discrete}
+use native.Mathlib.Omega.{arith}
 use lib.ListN.{length}
 use Rattle.calls.proofs.Count.{Count, none, hit, miss, count_map, count_le}
 use Rattle.grammar.specs.Refusal.{accepted}
@@ -23,7 +24,7 @@ use Rattle.schema.proofs.Laws.{has_one, named_one, number_one}
 use Rattle.schema.proofs.SheetClosed.{sheet_closed}
 use Rattle.finish.specs.Reply.{Reply, reply, outcome_of, count_of}
 use Rattle.memo.specs.Answer.{Answers}
-use Rattle.trail.proofs.Decided.{decided_blank, decided_more}
+use Rattle.walk.proofs.Decided.{decided_blank, decided_more}
 use Rattle.memo.proofs.TableOne.{table_one}
 
 -- The count of decided cells counts the cells that are not blank.

@@ -1,11 +1,13 @@
 // The table engine: questions over a lent table.
+ghost use Rattle.std.specs.Prelude.{◌||◌, ◌≡◌, ◌*◌, ◌≤◌, ltb};
 ghost use Rattle.grammar.specs.Words.{rule_in};
 ghost use Rattle.schema.specs.Derivation.{◌at◌};
+ghost use Rattle.schema.specs.Table.{cells};
 ghost use Rattle.finish.specs.Reply.{told};
 ghost use Rattle.memo.specs.Answer.{Says, QuestionPromise};
 ghost use Rattle.memo.specs.Ask.{AskReady};
 
-use cells::{blank, too_small};
+use cells::blank;
 use finish::Answer;
 use grammar::sheet::{Rules, Sheet};
 use rules::admit;
@@ -26,6 +28,18 @@ pub fn ask(
 {
     blank(table, 2 * (variables as usize * (input.len() + 1)));
     ask_over(rules, input, variables, variable, position, table, work)
+}
+
+// Refusal 10: the table has fewer than two numbers for each cell, or the work slice fewer than one.
+pub fn too_small(variables: u32, n: usize, table: usize, work: usize) -> bool
+    requires { (variables ≤ 256) × (n ≤ 4096) }
+    ensures { result ≡ (ltb table (2 * cells variables n) || ltb work (cells variables n)) }
+{
+    let size = variables as usize * (n + 1);
+    if table < 2 * size {
+        return true;
+    }
+    work < size
 }
 
 // A question about a variable at a position of the input, over a lent table and a lent work slice.

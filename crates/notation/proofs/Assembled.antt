@@ -70,8 +70,8 @@ module _ (ls : List Line) where
     pub none_above : (A : ℕ) → n < A → f A ≡ absent
     pub becomes : allowance ls ≤ 256 → SheetOf ls (printed n 1 46 (rules_from f n 1))
 
-  sheet_of_law : (f : ℕ → Rule) (n : ℕ) → Translated f n → allowance ls ≤ 256 → SheetOf ls (printed n 1 46 (rules_from f n 1))
-  sheet_of_law f n d few =
+  sheet_of : (f : ℕ → Rule) (n : ℕ) → Translated f n → allowance ls ≤ 256 → SheetOf ls (printed n 1 46 (rules_from f n 1))
+  sheet_of f n d few =
       let m = d.more in
       let k = d.few in
       record {
@@ -99,7 +99,7 @@ module _ (ls : List Line) where
         few = omega arith;
         fit = d.fit (first_fit L);
         none_above = λ A a. d.above A a ∙ first_absent L A (λ e. omega arith) (λ e. omega arith);
-        becomes = sheet_of_law f n d;
+        becomes = sheet_of f n d;
       }
 
   -- What lines of the form store.

@@ -17,8 +17,7 @@ use Rattle.calls.proofs.Walk.{walk, ask}
 use Rattle.columns.specs.Column.{leading, column, row, digits_after, number, field, fields}
 use Rattle.grammar.specs.Refusal.{accepted, checked}
 use Rattle.grammar.specs.Rule.{rule_of}
-use Rattle.grammar.specs.Lines.{open_line, not_lines}
-use Rattle.grammar.specs.Sheet.{grammar_of, sheet, line_at, rule_within, header_out, variable_out, condition, rule_order, sheet_order}
+use Rattle.grammar.specs.Sheet.{grammar_of, sheet, line_at, rule_within, open_line, not_lines, header_out, variable_out, condition, rule_order, sheet_order}
 use Rattle.grammar.specs.Printing.{text}
 use Rattle.schema.specs.Cases.{header}
 use Rattle.schema.specs.Derivation.{Pair, ◌at◌, success, failure, Outcome, result, loop, act_of, Has, Loops}

@@ -26,7 +26,7 @@ module _ (s input : List ℕ) (g : Grammar) (e : handed s (verdict_of input 2048
       let room = handed_slices s _ g e 2048 1024 refl in
       let few = room.1 in
       handed_then s (writer_of input (g.start at 0) 2048 1024 k) g (handed_sheet s _ g e)
-      ∙ (accepted_clear (call_condition g.variables (writer_of input (g.start at 0) 2048 1024 k)) call_order g).1 (
+      ∙ (accepted_clear (call_condition g (writer_of input (g.start at 0) 2048 1024 k)) call_order g).1 (
         le-ltb 4096 n (handed_input s _ g e),
         (
           rw (le-leb 1 g.start b.2, le-leb g.start g.variables b.3) refl,

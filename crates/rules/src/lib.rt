@@ -20,7 +20,7 @@ pub enum Act {
 }
 
 // What a rule of kind 2 or 3 looks at: a byte, or its class.
-pub fn seen(byte: u8, classed: bool) -> u8
+fn seen(byte: u8, classed: bool) -> u8
     ensures { result ≡ cond classed (class_of byte) byte }
 {
     if classed {

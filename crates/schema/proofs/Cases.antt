@@ -17,8 +17,7 @@ use Rattle.columns.specs.Column.{leading, column, row, digits_after, number, fie
 use Rattle.classes.specs.Class.{class_in, class_of}
 use Rattle.grammar.specs.Refusal.{Checked, refused, accepted, checked}
 use Rattle.grammar.specs.Rule.{Rule, rule_of}
-use Rattle.grammar.specs.Lines.{open_line, not_lines}
-use Rattle.grammar.specs.Sheet.{Grammar, grammar_of, line_at, rule_within, header_out, variable_out, condition, rule_order, sheet_order}
+use Rattle.grammar.specs.Sheet.{Grammar, grammar_of, line_at, rule_within, open_line, not_lines, header_out, variable_out, condition, rule_order, sheet_order}
 use Rattle.grammar.proofs.Refusals.{accepted_same}
 use Rattle.grammar.specs.Printing.{text}
 use Rattle.schema.specs.Cases.{Case, cases, first_pair, Derived, judged, CaseHolds}

@@ -31,10 +31,10 @@ module _ (s : List ℕ) (h : Handed) (g : Grammar) (e : handed s h ≡ accepted 
       go : (o : Checked Grammar) → sheet s ≡ o → sheet s ≡ accepted g
       go (refused x l) p = let q = handed_refused s h x l p in absurd (true≢false (cc))
       go (accepted k) p =
-          p ∙ ap accepted (accepted_same (call_condition k.variables h) call_order k g (sym (handed_then s h k p) ∙ e))
+          p ∙ ap accepted (accepted_same (call_condition k h) call_order k g (sym (handed_then s h k p) ∙ e))
 
-  call_clear : NoneHolds (call_condition g.variables h) call_order
-  call_clear = accepted_none (call_condition g.variables h) call_order g g (sym (handed_then s h g handed_sheet) ∙ e)
+  call_clear : NoneHolds (call_condition g h) call_order
+  call_clear = accepted_none (call_condition g h) call_order g g (sym (handed_then s h g handed_sheet) ∙ e)
 
   -- The input is not too long.
   pub handed_input : length h.input ≤ 4096

@@ -7,10 +7,9 @@ use native.Mathlib.Omega.{arith}
 use lib.ListN.{length}
 use Rattle.grammar.specs.Refusal.{refused, checked}
 use Rattle.grammar.specs.Rule.{Rule}
-use Rattle.grammar.specs.Lines.{not_lines}
-use Rattle.grammar.specs.Sheet.{lines, grammar_of, condition, header_order, rule_order, sheet_order, sheet}
+use Rattle.grammar.specs.Sheet.{lines, grammar_of, not_lines, condition, header_order, rule_order, sheet_order, sheet}
 use Rattle.grammar.proofs.Refusals.{refused_each}
-use Rattle.grammar.proofs.Ends.{lines_whole}
+use Rattle.grammar.proofs.Whole.{lines_whole}
 use Rattle.schema.specs.Derivation.{◌at◌, success, failure, missing, Outcome, result, stopped, loop, Has}
 use Rattle.schema.specs.Handed.{Handed, handed_condition, call_order, handed_order, handed}
 use Rattle.schema.specs.Table.{code}
@@ -48,19 +47,19 @@ call_lines s m =
     (omega arith, (omega arith, (omega arith, rule_lines 257 2 (lines s - 1) (omega arith))))
     (omega arith, (omega arith, (omega arith, (omega arith, (omega arith, tt)))))
 
-not_lines_law : (s : List ℕ) → not_lines 26 s ≡ true → sheet s ≡ refused 1 0
+not_lines_law : (s : List ℕ) → not_lines s ≡ true → sheet s ≡ refused 1 0
 unfolding sheet sheet_order condition checked
 not_lines_law s e = rw e
 
 -- Its line is at most 257.
 pub refusal_line : (s : List ℕ) (h : Handed) (x l : ℕ) → handed s h ≡ refused x l → l ≤ 257
-refusal_line s h x l e = by_lines (not_lines 26 s) refl
+refusal_line s h x l e = by_lines (not_lines s) refl
   where
-    by_lines : (t : Bool) → not_lines 26 s ≡ t → l ≤ 257
+    by_lines : (t : Bool) → not_lines s ≡ t → l ≤ 257
     by_lines true q = let f = handed_refused s h 1 0 (not_lines_law s q) in let z : l ≡ 0 = cc in omega arith
     by_lines false q =
         let f = (call_refused s h x l).0 e in
-        most_at 257 f.before f.after x l (subst (LinesMost 257) f.order (call_lines s (lines_whole 26 s q).few_lines))
+        most_at 257 f.before f.after x l (subst (LinesMost 257) f.order (call_lines s (lines_whole s q).few_lines))
 
 -- The code of an outcome on up to 4,096 bytes.
 pub code_small : (rule : ℕ → Rule) (s : List ℕ) (A p : ℕ) (o : Outcome) → p ≤ length s → length s ≤ 4096 → Has rule s (A at p) o → code o ≤ 4101

@@ -19,8 +19,8 @@ pub handed_refused : (s : List ℕ) (h : Handed) (x l : ℕ) → sheet s ≡ ref
 handed_refused s h x l e = handed_parts s h ∙ rw e
 
 -- after an accepted sheet come the other tests.
-pub handed_then : (s : List ℕ) (h : Handed) (g : Grammar) → sheet s ≡ accepted g → handed s h ≡ checked (call_condition g.variables h) call_order g
-handed_then s h g e = handed_parts s h ∙ rw e (ap (λ (k : Grammar). checked (call_condition k.variables h) call_order k) (describes s g e).grammar_is)
+pub handed_then : (s : List ℕ) (h : Handed) (g : Grammar) → sheet s ≡ accepted g → handed s h ≡ checked (call_condition g h) call_order g
+handed_then s h g e = handed_parts s h ∙ rw e (ap (λ (k : Grammar). checked (call_condition k h) call_order k) (describes s g e).grammar_is)
 
 -- A question by its tests for 6, 8 and 9.
 pub asked_by : (s input : List ℕ) (g : Grammar) (A p : ℕ) {a b c : Bool} → sheet s ≡ accepted g

@@ -4,7 +4,7 @@ use Rattle.std.proofs.Math.Option.{Option, none, some}
 use Rattle.grammar.specs.Order.{FirstHolds}
 use Rattle.grammar.specs.Refusal.{Checked, checked, from}
 use Rattle.grammar.specs.Rule.{within}
-use Rattle.grammar.specs.Sheet.{Grammar, variables_of, grammar_of, condition, sheet_order}
+use Rattle.grammar.specs.Sheet.{Grammar, grammar_of, condition, sheet_order}
 use Rattle.schema.specs.Derivation.{Pair, ◌at◌}
 use Rattle.schema.specs.Table.{cells}
 
@@ -41,13 +41,13 @@ slices_short count l = ltb l.0 (2 * count) || ltb l.1 count
 abbrev pub output_short : ℕ → ℕ → Bool
 output_short count l = ltb l (49 * count)
 
--- Of v variables, the condition of a refusal by its number; none of these has a line.
-unfoldable pub call_condition : ℕ → Handed → ℕ → ℕ → Bool
-call_condition v h number line =
+-- The condition of a refusal by its number; none of these has a line.
+unfoldable pub call_condition : Grammar → Handed → ℕ → ℕ → Bool
+call_condition g h number line =
     let n = length h.input in
-    let count = cells v n in
+    let count = cells g.variables n in
     cond (eqb number 6) (input_long h)
-    (cond (eqb number 8) (tested h.pair (pair_variable_out v))
+    (cond (eqb number 8) (tested h.pair (pair_variable_out g.variables))
     (cond (eqb number 9) (tested h.pair (pair_position_out n))
     (cond (eqb number 10) (tested h.slices (slices_short count))
     (cond (eqb number 11) (tested h.output (output_short count))
@@ -55,7 +55,7 @@ call_condition v h number line =
 
 -- The condition of a refusal by its number, at a line: 1 to 5 are the sheet's, 6 to 11 the call's.
 unfoldable pub handed_condition : List ℕ → Handed → ℕ → ℕ → Bool
-handed_condition s h = from 6 (call_condition (variables_of s) h) (condition s)
+handed_condition s h = from 6 (call_condition (grammar_of s) h) (condition s)
 
 -- "then 6, 7, 8, 9, 10, 11", order 11: "Refusal 7 no longer occurs".
 abbrev pub call_order : List (ℕ × ℕ)

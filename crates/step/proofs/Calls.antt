@@ -12,9 +12,8 @@ use Rattle.schema.specs.Derivation.{◌at◌, second}
 use Rattle.schema.specs.Table.{cell}
 use Rattle.cells.specs.declared.Cell.{Cell}
 use Rattle.step.specs.Codes.{Code, result_of}
-use Rattle.step.specs.Step.{SettleReady, SettlesTop}
-use Rattle.trail.specs.State.{top_of}
-use Rattle.trail.specs.declared.State.{State}
+use Rattle.step.specs.Step.{top_of, SettleReady, SettlesTop}
+use Rattle.step.specs.declared.State.{State}
 
 -- A code that is not that of a failure is that of a success.
 pub code_large : (c : ℕ) → Code c → c ≢ 1 → 5 ≤ c

@@ -14,11 +14,10 @@ use Rattle.schema.specs.Table.{Within, cell, held, reach}
 use Rattle.schema.proofs.Closed.{calls_call}
 use Rattle.schema.proofs.Cell.{PairWithin, cell_below}
 use Rattle.cells.specs.Packed.{entry}
-use Rattle.step.specs.Codes.{Code, Unsettled, Settled, Called, first_called, second_called, result_of}
-use Rattle.trail.specs.State.{open_mark, top_of, called_of}
-use Rattle.step.specs.Step.{LookedUp, settled_before, leaf_settled, StepReady, Settles, GoesBack, ToSecond, SettleReady, ResumeReady, Joins, Resumes, Opens, Steps}
+use Rattle.step.specs.Codes.{Code, open_mark, Unsettled, Settled, Called, first_called, second_called, result_of}
+use Rattle.step.specs.Step.{LookedUp, settled_before, leaf_settled, top_of, called_of, StepReady, Settles, GoesBack, ToSecond, SettleReady, ResumeReady, Joins, Resumes, Opens, Steps}
 use Rattle.cells.specs.declared.Cell.{Cell}
-use Rattle.trail.specs.declared.State.{State}
+use Rattle.step.specs.declared.State.{State}
 use Rattle.step.specs.declared.Step.{Step}
 use Rattle.step.specs.declared.Step.TheVariants as step
 use Rattle.step.specs.declared.Walk.TheVariants as walk

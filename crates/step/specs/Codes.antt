@@ -6,7 +6,10 @@ use Rattle.schema.specs.Closed.{Closed}
 use Rattle.schema.specs.Derivation.{Pair, ◌at◌, Result, success, failure, gives, calls, act, second, result}
 use Rattle.schema.specs.Examined.{leaf_reach_of}
 use Rattle.schema.specs.Table.{Ends, cells, code, held, reach}
-use Rattle.trail.specs.State.{open_mark}
+
+-- An open cell, of a pair that is asked and not decided yet, holds a number above every code.
+abbrev pub open_mark : ℕ
+open_mark = 4294967295
 
 -- A cell that the walk still has to walk: blank, or kept from a loop or a missing rule.
 pub record Unsettled (c : ℕ) : Type 0 where
@@ -50,3 +53,7 @@ Code c = (c ≡ 1) ⊎ (5 ≤ c)
 -- The result that a cell's code stands for.
 abbrev pub result_of : ℕ → Result
 result_of c = cond (eqb c 1) failure (success (c - 5))
+
+-- How many cells the next number of a cell decides: one where the cell is blank.
+abbrev pub fresh : ℕ → ℕ
+fresh c = cond (eqb c 0) 1 0

@@ -1,15 +1,14 @@
 -- What one step of the walk does: it looks a pair up, and then opens it, goes on to the second call, or settles the pair that called. Assumes nothing.
-use Rattle.std.specs.Prelude.{true, false, List, ◌⊎◌, ◌≡◌, ℕ, ◌+◌, max, ◌≤◌, ◌<◌, length, set}
+use Rattle.std.specs.Prelude.{true, false, List, ◌⊎◌, ◌≡◌, ℕ, ◌+◌, ◌/◌, ◌%◌, max, ◌≤◌, ◌<◌, eqb, length, get_or, set}
 use Rattle.grammar.specs.Rule.{Rule, call}
 use Rattle.schema.specs.Cells.{stored, HasCell}
 use Rattle.schema.specs.Derivation.{Pair, ◌at◌, Result, Stop, missing, gives, stops, calls, act, second}
 use Rattle.schema.specs.Examined.{leaf_reach_of}
 use Rattle.schema.specs.Table.{Within, cell, cells, held, reach}
 use Rattle.cells.specs.Packed.{entry}
-use Rattle.step.specs.Codes.{Code, Unsettled, Settled, Called, Walkable, result_of}
-use Rattle.trail.specs.State.{open_mark, top_of, called_of, Returns}
+use Rattle.step.specs.Codes.{Code, open_mark, Unsettled, Settled, Called, Walkable, result_of}
 use Rattle.cells.specs.declared.Cell.{Cell}
-use Rattle.trail.specs.declared.State.{State}
+use Rattle.step.specs.declared.State.{State}
 use Rattle.step.specs.declared.Step.{Step}
 use Rattle.step.specs.declared.Step.TheVariants as step
 use Rattle.step.specs.declared.Walk.{Walk}
@@ -24,6 +23,14 @@ pub data LookedUp (rule : ℕ → Rule) (s T : List ℕ) (y : Pair) (r : Result)
       → LookedUp rule s T y r (stored T (cell (length s) y) c m)
 
 -- ---- One step of the walk.
+
+-- The latest open pair,
+abbrev pub top_of : State → Pair
+top_of x = x.variable at x.position
+
+-- and the pair that it calls.
+abbrev pub called_of : State → Pair
+called_of x = x.called at x.target
 
 -- What a step asks.
 pub record StepReady (rule : ℕ → Rule) (s : List ℕ) (v : ℕ) (T W : List ℕ) (x : State) : Type 0 where
@@ -56,6 +63,14 @@ pub record Settles (rule : ℕ → Rule) (s T W T' W' : List ℕ) (x : State) (c
       → m ≡ max (reach (length s) T₁ (B at x.position)) (reach (length s) T₁ (called_of x))
   pub table_is : T' ≡ stored T₁ (cell (length s) (top_of x)) c m
   pub work_same : W' ≡ W
+
+-- Its caller, the latest in the work slice, is next.
+pub record Returns (W : List ℕ) (x y : State) : Type 0 where
+  pub depth_is : x.depth ≡ y.depth + 1
+  pub variable_is : y.variable ≡ get_or W y.depth 0 / 16384
+  pub position_is : y.position ≡ get_or W y.depth 0 / 2 % 8192
+  pub second_is : y.second ≡ eqb (get_or W y.depth 0 % 2) 1
+  pub called_is : called_of y ≡ top_of x
 
 -- Back to the caller, or the end where there is none.
 abbrev pub GoesBack : List ℕ → State → Cell → Step → Type 0

@@ -1,16 +1,28 @@
 // One step of the walk over a lent table: the called pair is looked up, and settled, opened or gone on with.
-ghost use Rattle.std.specs.Prelude.{◌≤◌, length};
+ghost use Rattle.std.specs.Prelude.{◌≡◌, ◌/◌, ◌%◌, ◌≤◌, ◌<◌, eqb, length, set};
 ghost use Rattle.grammar.specs.Words.{rule_in};
 ghost use Rattle.schema.specs.Cells.{stored, HasCell};
+ghost use Rattle.schema.specs.Derivation.{◌at◌};
 ghost use Rattle.schema.specs.Table.{cell, held};
-ghost use Rattle.step.specs.Codes.{Unsettled, Code};
-ghost use Rattle.step.specs.Step.{StepReady, ToSecond, GoesBack, SettleReady, SettlesTop, ResumeReady, Resumes, Steps};
-ghost use Rattle.trail.specs.State.{called_of};
+ghost use Rattle.cells.specs.Packed.{entry};
+ghost use Rattle.step.specs.Codes.{open_mark, Unsettled, Code, fresh};
+ghost use Rattle.step.specs.Step.{top_of, called_of, StepReady, ToSecond, GoesBack, SettleReady, SettlesTop, ResumeReady, Resumes, Steps};
 
-use cells::{Cell, cell_number};
+use cells::{Caller, Cell, cell_number};
 use grammar::sheet::Rules;
 use rules::{Act, act_at, first_of, leaf_reach, second_of};
-use trail::{State, caller_of, open_called};
+
+// Where the walk stands: the latest open pair; the pair that it calls, a variable and its position, the target; whether that is its second call;
+// and how many callers the work slice holds.
+#[derive(Drop)]
+pub struct State {
+    pub variable: u32,
+    pub position: u32,
+    pub called: u32,
+    pub target: u32,
+    pub second: bool,
+    pub depth: usize,
+}
 
 // What a walk ends with: the number of a result; a pair met a second time, and the one that called it; or the pair that has no rule;
 // but for a result with the number of callers in the work slice.
@@ -26,6 +38,21 @@ pub enum Walk {
 pub enum Step {
     On(State),
     Ended(Walk),
+}
+
+// The state at the caller that an entry of the work slice holds, once the top of x is settled.
+fn caller_of(x: State, entry: u32, depth: usize) -> State
+    ensures { (result.variable ≡ entry / 16384) × (result.position ≡ entry / 2 % 8192) × (result.second ≡ eqb (entry % 2) 1) × (called_of result ≡ top_of x) × (result.depth ≡ depth) }
+{
+    let caller = Caller::unpack(entry);
+    State {
+        variable: caller.variable,
+        position: caller.position,
+        called: x.variable,
+        target: x.position,
+        second: caller.second,
+        depth,
+    }
 }
 
 // The state at the second call of the top of x, whose first call has a result: c where it ends, or d where the pair stands.
@@ -53,6 +80,22 @@ fn to_second(rules: &Rules, x: State, first: Cell) -> State
         second: true,
         depth: x.depth,
     }
+}
+
+// Opens the called pair, and notes its caller.
+fn open_called(n: usize, table: &mut [u32], work: &mut [u32], x: State)
+    requires { (1 ≤ x.called) × (x.called ≤ 256) × (n ≤ 4096) × (x.target ≤ n) × HasCell table.old (cell n (called_of x)) × (x.variable ≤ 256) × (x.position ≤ 4096) × (x.depth < length work.old) }
+    ensures opens { table.new ≡ stored table.old (cell n (called_of x)) open_mark 0 }
+    ensures notes { work.new ≡ set work.old x.depth (entry x.second (top_of x)) }
+{
+    Cell::OPEN.store(table, cell_number(n, x.called, x.target));
+    let caller = Caller {
+        variable: x.variable,
+        position: x.position,
+        second: x.second,
+    };
+    let depth = x.depth;
+    work[depth] = caller.pack();
 }
 
 // Settles the latest open pair, and goes back to its caller. It looked as far as the further one of its two called pairs.
@@ -170,4 +213,15 @@ pub fn advance(
         return Step::Ended(end);
     }
     resume(rules, n, table, work, x, found)
+}
+
+// How many cells the next number of a pair's cell decides: one where it is blank.
+pub fn newly(n: usize, table: &[u32], variable: u32, position: u32) -> u32
+    requires { (1 ≤ variable) × (variable ≤ 256) × (n ≤ 4096) × (position ≤ n) × HasCell table.now (cell n (variable at position)) }
+    ensures { result ≡ fresh (held n table.now (variable at position)) }
+{
+    if Cell::load(table, cell_number(n, variable, position)).0 == Cell::BLANK.0 {
+        return 1;
+    }
+    0
 }

@@ -5,10 +5,9 @@ ghost use Rattle.rules.specs.Admission.{Admits};
 ghost use Rattle.finish.specs.Reply.{told};
 ghost use Rattle.verdict.specs.Verdict.{numbers, judged, VerdictPromise};
 
-use cells::too_small;
 use finish::Answer;
 use grammar::sheet::{Rules, Sheet, read_sheet};
-use memo::ask;
+use memo::{ask, too_small};
 
 // What a verdict says, with the count of decided cells: recognised or partial with the end, failure; loop or a missing rule with
 // the variable and the position that are named; or the number and the line of a refusal.

@@ -12,17 +12,15 @@ use Rattle.schema.specs.Closed.{Closed}
 use Rattle.schema.specs.Derivation.{Pair, ◌at◌, Result}
 use Rattle.schema.specs.Table.{cell, cells, decided, held}
 use Rattle.schema.proofs.Cell.{cell_below}
-use Rattle.step.specs.Codes.{Settled}
-use Rattle.trail.specs.State.{open_mark, fresh, top_of, called_of}
-use Rattle.walk.specs.Walk.{before, WalkReady}
-use Rattle.trail.specs.State.{Counts}
-use Rattle.step.specs.Step.{LookedUp, settled_before, leaf_settled, Settles, Opens, StepEnds, Steps}
-use Rattle.trail.specs.declared.State.{State}
+use Rattle.step.specs.Codes.{open_mark, Settled, fresh}
+use Rattle.walk.specs.Walk.{Counts, before, WalkReady}
+use Rattle.step.specs.Step.{LookedUp, settled_before, leaf_settled, top_of, called_of, Settles, Opens, StepEnds, Steps}
+use Rattle.step.specs.declared.State.{State}
 use Rattle.step.specs.declared.Step.TheVariants as step
 use Rattle.step.specs.declared.Walk.{Walk}
 use Rattle.step.specs.declared.Walk.TheVariants as walk
-use Rattle.trail.proofs.Fresh.{fresh_not}
-use Rattle.trail.proofs.Decided.{decided_stored, decided_most}
+use Rattle.step.proofs.Looking.{fresh_not}
+use Rattle.walk.proofs.Decided.{decided_stored, decided_most}
 use Rattle.cells.proofs.Numbers.{cells_small}
 use Rattle.walk.proofs.Marks.{stands, settled_full}
 use Rattle.walk.proofs.Standing.{Standing}

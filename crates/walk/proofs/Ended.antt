@@ -28,8 +28,7 @@ use Rattle.schema.proofs.Cell.{pair_of, PairWithin, cell_below, cell_pair, pair_
 use Rattle.schema.proofs.System as schema
 use Rattle.schema.proofs.System.{kind_of}
 use Rattle.schema.proofs.Waiting as waiting
-use Rattle.step.specs.Codes.{Settled, Called, Given, result_of}
-use Rattle.trail.specs.State.{open_mark}
+use Rattle.step.specs.Codes.{open_mark, Settled, Called, Given, result_of}
 use Rattle.walk.specs.Walk.{Reaching, HeldAt, TableMeans, TableEnds}
 use Rattle.step.proofs.Looking.{result_is}
 use Rattle.walk.proofs.Bridge.{top_free, free_kind, called_link}

@@ -4,17 +4,27 @@ use mathlib.Core.List.Memᴰ
 use mathlib.Core.List.{List, [], ◌∷◌, Memᴰ}
 use mathlib.Core.Logic.{◌≢◌}
 use Prim.Native.Nat.{ℕ, ◌*◌, ◌≤◌, ◌<◌}
+use native.Mathlib.Decide.{ℕ_discrete}
 use native.Mathlib.Omega.{arith}
 use lib.ListN.{length}
 use Rattle.grammar.specs.Rule.{Rule}
 use Rattle.schema.specs.Cells.{held_at}
 use Rattle.schema.specs.Derivation.{Pair, ◌at◌, Outcome}
-use Rattle.schema.specs.Table.{cells}
+use Rattle.schema.specs.Table.{cells, decided}
 use Rattle.schema.proofs.Cell.{pair_of, cell_pair, pair_within}
-use Rattle.trail.specs.State.{open_mark}
-use Rattle.trail.specs.Closing.{CloseReady}
+use Rattle.step.specs.Codes.{open_mark}
+use Rattle.finish.specs.Closing.{CloseReady, Closes}
 use Rattle.walk.specs.Walk.{depth_of, TableEnds, WalkEnds}
 use Rattle.step.specs.declared.Walk.{Walk}
+use Rattle.walk.proofs.Decided.{decided_same}
+
+-- Closing decides no cell anew.
+pub closes_counts : {N c : ℕ} (T T' : List ℕ) → c ≢ 0 → Closes N c T T' → decided N T' ≡ decided N T
+closes_counts {N} T T' d h =
+    decided_same T T' N (λ i l e. (h.others i (λ o. omega arith)).0 ∙ e) (λ i l f. elim (ℕ_discrete (held_at T i) open_mark) [
+      | yes o ↦ λ e. d (sym (h.opened i l o).0 ∙ e)
+      | no n ↦ λ e. f (sym (h.others i n).0 ∙ e)
+    ])
 
 module _ {rule : ℕ → Rule} {s : List ℕ} {v : ℕ} {x : Pair} {O T U W : List ℕ} {r : Walk} (ends : WalkEnds rule s v x O T U W r) where
   -- What the call to close is handed.

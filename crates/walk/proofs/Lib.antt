@@ -7,6 +7,8 @@ pub mod Still
 pub mod Ended
 pub mod Standing
 pub mod Stepping
+pub mod Decided
 pub mod Counting
 pub mod Finished
+pub mod Cleared
 pub mod Overs

@@ -8,8 +8,7 @@ use lib.Dec.{eqb, ltb}
 use borrow.Author.Tests.{eqb-true, eqb-false, eq-eqb, ne_eqb, ltb-true, ltb-false, lt-ltb, le-ltb}
 use Rattle.calls.proofs.Table.{Mark, blank, opened, settled}
 use Rattle.schema.specs.Derivation.{Result, success, failure}
-use Rattle.step.specs.Codes.{Code, Unsettled, Settled, Fits}
-use Rattle.trail.specs.State.{open_mark}
+use Rattle.step.specs.Codes.{Code, open_mark, Unsettled, Settled, Fits}
 
 -- Open, failure, success, or still to be walked.
 unfoldable pub mark : ℕ → Mark Result

@@ -21,17 +21,15 @@ use Rattle.schema.proofs.Laws.{has_one}
 use Rattle.finish.specs.Reply.{Reply, reply, told}
 use Rattle.finish.specs.Finish.{FinishReady, Finishes}
 use Rattle.walk.specs.Over.{OverReady, Over}
-use Rattle.step.specs.Codes.{Unsettled, Settled, Fits}
-use Rattle.trail.specs.State.{open_mark, fresh}
-use Rattle.finish.specs.Ended.{outcome_of, named_of}
-use Rattle.walk.specs.Walk.{before, RightTable, WalkReady, WalkEnds, HeldAt, TableMeans, SettledCode}
-use Rattle.trail.specs.State.{Counts}
+use Rattle.step.specs.Codes.{open_mark, Unsettled, Settled, Fits, fresh}
+use Rattle.finish.specs.Closing.{outcome_of, named_of}
+use Rattle.walk.specs.Walk.{Counts, before, RightTable, WalkReady, WalkEnds, HeldAt, TableMeans, SettledCode}
 use Rattle.finish.specs.declared.Answer.{Answer}
 use Rattle.step.specs.declared.Walk.{Walk}
 use Rattle.step.specs.declared.Walk.TheVariants as walk
-use Rattle.trail.proofs.Decided.{decided_stored, decided_most, closes_counts}
+use Rattle.walk.proofs.Decided.{decided_stored, decided_most}
 use Rattle.step.proofs.Looking.{result_is}
-use Rattle.walk.proofs.Finished.{close_ready, no_open}
+use Rattle.walk.proofs.Finished.{close_ready, no_open, closes_counts}
 use Rattle.walk.proofs.Marks.{settled_not, settled_full, settled_closed, code_of}
 use Rattle.walk.proofs.Through.{reaching_pair}
 use Rattle.cells.proofs.Numbers.{cells_small}

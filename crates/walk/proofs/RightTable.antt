@@ -2,7 +2,6 @@
 use mathlib.Core.Path.{◌≡◌, sym, ◌∙◌, subst}
 use mathlib.Core.List.{List}
 use Prim.Native.Nat.{ℕ, ◌≤◌, ◌<◌}
-use native.Mathlib.Omega.{arith}
 use lib.ListN.{length}
 use Rattle.calls.proofs.Invariant.{Kept}
 use Rattle.calls.proofs.System as theory
@@ -17,11 +16,11 @@ use Rattle.schema.specs.Closed.{Closed}
 use Rattle.schema.specs.Derivation.{Pair, ◌at◌, Result, act, second}
 use Rattle.schema.specs.Table.{cell, cells, held}
 use Rattle.schema.proofs.Answer.{gts_cells, means_cell}
-use Rattle.schema.proofs.Cell.{pair_of, PairWithin, cell_below, cell_pair, pair_within}
+use Rattle.schema.proofs.Cell.{pair_of, PairWithin, cell_pair, pair_within}
 use Rattle.schema.proofs.System.{kind_calls}
 use Rattle.step.specs.Codes.{Settled, Fits}
 use Rattle.walk.specs.Walk.{RightTable}
-use Rattle.walk.proofs.Marks.{mark, stands, settled_full}
+use Rattle.walk.proofs.Marks.{mark, stands}
 use Rattle.walk.proofs.Bridge.{cell_kind, cell_first, cell_second, settled_at}
 
 module _ (rule : ℕ → Rule) (s : List ℕ) (v : ℕ) (closed : Closed v rule) (short : length s ≤ 4096) (O : List ℕ)
@@ -52,12 +51,3 @@ module _ (rule : ℕ → Rule) (s : List ℕ) (v : ℕ) (closed : Closed v rule)
         (fits_pair (pair_of (length s) i) r (pair_within v (length s) i l) (subst (λ (j : ℕ). Settled (length s) (held_at O j) r) (sym c) m));
     no_open = λ i l e. right.no_open i l (stands (length s) (held_at O i) opened (fits i l) e);
   }
-
--- A blank table is right.
-pub blank_right : (rule : ℕ → Rule) (s : List ℕ) (v : ℕ) (O : List ℕ) → ((i : ℕ) → i < cells v (length s) → held_at O i ≡ 0) → RightTable rule s v O
-blank_right rule s v O blank = record {
-  no_open = λ i l e. let z = blank i l in omega arith;
-  right = λ B q r i m. absurd (settled_full r m (blank (cell (length s) (B at q)) (cell_below v (length s) (B at q) i)));
-  whole = λ B C D E q r i m e. absurd (settled_full r m (blank (cell (length s) (B at q)) (cell_below v (length s) (B at q) i)));
-  reaching = λ B q r i m. absurd (settled_full r m (blank (cell (length s) (B at q)) (cell_below v (length s) (B at q) i)));
-}

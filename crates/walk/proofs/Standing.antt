@@ -1,6 +1,7 @@
 -- The walk that answers: the work slice holds the callers of the open pairs, one above the other. What holds before each step. Assumes nothing.
 use mathlib.Core.Path.{◌≡◌, refl, sym, ap, ◌∙◌, subst}
 use mathlib.Core.Bool.{Bool}
+use mathlib.Core.List.Memᴰ
 use mathlib.Core.List.{List, [], ◌∷◌, map, Memᴰ}
 use Prim.Native.Nat.{ℕ, suc, ◌≤◌, ◌<◌}
 use native.Mathlib.Omega.{arith}
@@ -20,10 +21,9 @@ use Rattle.schema.proofs.Held.{held_cells}
 use Rattle.schema.proofs.Cell.{pair_of, PairWithin, cell_pair, pair_cell}
 use Rattle.cells.specs.Packed.{entry}
 use Rattle.step.specs.Codes.{Settled, Called, first_called, second_called}
-use Rattle.trail.proofs.Pairs.{Entered}
-use Rattle.trail.proofs.Pairs as entries
-use Rattle.trail.specs.State.{top_of, called_of}
-use Rattle.trail.specs.declared.State.{State}
+use Rattle.finish.specs.Closing.{Trail, only_asked, called_by}
+use Rattle.step.specs.Step.{top_of, called_of}
+use Rattle.step.specs.declared.State.{State}
 use Rattle.walk.proofs.Marks.{mark}
 use Rattle.walk.proofs.Through.{Through}
 
@@ -68,10 +68,18 @@ module _ {rule : ℕ → Rule} {s : List ℕ} where
   stacked_length alone = refl
   stacked_length (above k e h t) = ap suc (stacked_length t)
 
--- What the work slice holds of them.
-pub entered : {rule : ℕ → Rule} {s T W : List ℕ} {d : ℕ} {l : List ℕ} → Stacked rule s T W d l → Entered (length s) W d l
-entered alone = entries.alone
-entered (above k e h t) = entries.above k e (entered t)
+-- The open cells as pairs.
+module _ (rule : ℕ → Rule) (s : List ℕ) (v : ℕ) (x : Pair) (w : PairWithin v (length s) x) {σ : System ℕ Result Stop} {M : ℕ → Mark Result} {T W : List ℕ} where
+  pub trail_pairs : {d : ℕ} {l : List ℕ} → theory.Trail σ M (cell (length s) x) l → Stacked rule s T W d l
+      → Trail W x d (map (pair_of (length s)) l)
+  trail_pairs theory.start alone = subst (λ (y : Pair). Trail W x 0 (y ∷ [])) (sym (pair_cell v (length s) x w)) only_asked
+  trail_pairs (theory.push {x = i} {y = j} {s = r} t n l) (above k e h u) = called_by k fresh e (trail_pairs t u)
+    where
+      fresh : Memᴰ (pair_of (length s) j) (map (pair_of (length s)) (i ∷ r)) → ⊥
+      fresh m =
+          let o = Memᴰ.of_map (pair_of (length s)) (i ∷ r) m in
+          let e : o.0 ≡ j = sym (cell_pair (length s) o.0) ∙ ap (cell (length s)) o.2 ∙ cell_pair (length s) j in
+          n (subst (λ (u : ℕ). In u (i ∷ r)) e (mem_in o.0 (i ∷ r) o.1))
 
 -- With no caller in the work slice, the top is the asked pair.
 pub at_bottom : {rule : ℕ → Rule} {s T W : List ℕ} {σ : System ℕ Result Stop} {M : ℕ → Mark Result} {root i : ℕ} {l : List ℕ} → theory.Trail σ M root (i ∷ l)

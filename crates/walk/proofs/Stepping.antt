@@ -18,25 +18,21 @@ use Rattle.schema.specs.Table.{cell, cells, held, reach}
 use Rattle.schema.proofs.Closed.{calls_call}
 use Rattle.schema.proofs.Cell.{pair_of, PairWithin, cell_below, cell_pair, pair_cell, pair_within}
 use Rattle.cells.specs.Packed.{entry}
-use Rattle.step.specs.Codes.{Settled, Called, first_called, second_called, Given, by_leaf, by_calls, result_of}
-use Rattle.trail.specs.State.{open_mark, top_of, called_of, Returns}
-use Rattle.finish.specs.Ended.{outcome_of, named_of}
-use Rattle.trail.specs.Closing.{Trail, nothing_open}
+use Rattle.step.specs.Codes.{open_mark, Settled, Called, first_called, second_called, Given, by_leaf, by_calls, result_of}
+use Rattle.finish.specs.Closing.{Trail, nothing_open, outcome_of, named_of}
 use Rattle.walk.specs.Walk.{before, WalkReady, WalkEnds, TableEnds, depth_of, StopsAt, SettledCode}
-use Rattle.step.specs.Step.{LookedUp, settled_before, leaf_settled, StepReady, Seconds, Settles, Opens, Descends, Stuck, StepEnds, Steps}
+use Rattle.step.specs.Step.{LookedUp, settled_before, leaf_settled, top_of, called_of, StepReady, Seconds, Settles, Returns, Opens, Descends, Stuck, StepEnds, Steps}
 use Rattle.cells.specs.declared.Cell.{Cell}
-use Rattle.trail.specs.declared.State.{State}
+use Rattle.step.specs.declared.State.{State}
 use Rattle.step.specs.declared.Step.TheVariants as step
 use Rattle.step.specs.declared.Walk.{Walk}
 use Rattle.step.specs.declared.Walk.TheVariants as walk
 use Rattle.step.proofs.Stepped.{looked_held}
 use Rattle.walk.proofs.Ended.{stops_here, again_ends, stuck_ends, settle_ends}
-use Rattle.trail.proofs.Entry.{entry_parts}
+use Rattle.finish.proofs.Entry.{entry_parts}
 use Rattle.walk.proofs.Still.{room_before, walkable_still}
 use Rattle.walk.proofs.Marks.{mark, stands, settled_not}
-use Rattle.trail.proofs.Pairs.{trail_pairs}
-use Rattle.trail.proofs.Pairs as entries
-use Rattle.walk.proofs.Standing.{Stacked, alone, above, Standing, called_still, stacked_still, stacked_above, entered, at_bottom, deep_enough}
+use Rattle.walk.proofs.Standing.{Stacked, alone, above, Standing, called_still, stacked_still, stacked_above, trail_pairs, at_bottom, deep_enough}
 use Rattle.step.proofs.Within.{called_within}
 use Rattle.walk.proofs.Through.{Through, begins_through, open_falls, open_through, leaf_through, leaf_falls, settle_falls, settle_through}
 
@@ -186,7 +182,7 @@ module _ (rule : ℕ → Rule) (s : List ℕ) (v : ℕ) (closed : Closed v rule)
 
       -- or it has no rule, and the walk ends.
       stuck_trail : (w : PairWithin v (length s) x) → Trail W' x (suc y.depth) opened_pairs
-      stuck_trail w = trail_pairs v (length s) x w opened_through.inv.trail (entered opened_stacked)
+      stuck_trail w = trail_pairs rule s v x w opened_through.inv.trail opened_stacked
 
       stuck_deep : suc y.depth ≤ N
       stuck_deep = deep_enough g.through g.stacked
@@ -319,7 +315,7 @@ module _ (rule : ℕ → Rule) (s : List ℕ) (v : ℕ) (closed : Closed v rule)
                 (again_ends rule s v closed few short w g.within g.through y.called y.target g.called h.opened));
             stops_at = subst (λ (u : Pair). (ps : List Pair) × (opens ≡ u ∷ ps)) (sym h.caller_is) (stops_here rule s v closed few short w g.within g.through);
             settled_code = tt;
-            trail = rw (h.work_same, e) (trail_pairs v (length s) x w g.through.inv.trail (entered g.stacked));
+            trail = rw (h.work_same, e) (trail_pairs rule s v x w g.through.inv.trail g.stacked);
             deep = omega arith;
             work_later = ap (drop N) h.work_same ∙ g.work_later;
             work_size = ap length h.work_same ∙ g.work_size;
@@ -405,7 +401,7 @@ module _ {rule : ℕ → Rule} {s : List ℕ} {v A p : ℕ} {T₀ W₀ : List �
         table = rw (e₁, e₂) (stuck_ends rule s v closed r.walkable.few r.walkable.short r.within r.within g t e);
         stops_at = stop opens (stops_here rule s v closed r.walkable.few r.walkable.short r.within r.within g);
         settled_code = code;
-        trail = rw e₃ (trail_pairs v (length s) (A at p) r.within g.inv.trail entries.alone);
+        trail = rw e₃ (trail_pairs rule s v (A at p) r.within {T = T₀} g.inv.trail alone);
         deep = rw e₃ (omega arith);
         work_later = refl;
         work_size = refl;

@@ -22,8 +22,7 @@ use Rattle.schema.specs.Table.{Within, cell, cells, held, reach}
 use Rattle.schema.proofs.Answer.{gts_cells}
 use Rattle.schema.proofs.Held.{held_cells, held_bounded}
 use Rattle.schema.proofs.Cell.{PairWithin, cell_below, cell_one}
-use Rattle.step.specs.Codes.{Unsettled, Settled, Fits, Called, first_called, second_called, Given, by_leaf, by_calls}
-use Rattle.trail.specs.State.{open_mark}
+use Rattle.step.specs.Codes.{open_mark, Unsettled, Settled, Fits, Called, first_called, second_called, Given, by_leaf, by_calls}
 use Rattle.walk.specs.Walk.{before, Reaching, WalkReady}
 use Rattle.step.proofs.Within.{called_within}
 use Rattle.walk.proofs.Marks.{mark, mark_open, mark_settled, mark_blank, stands, settled_one, settled_closed}

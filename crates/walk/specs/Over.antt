@@ -8,8 +8,7 @@ use Rattle.schema.specs.Derivation.{Pair, Outcome, Has}
 use Rattle.schema.specs.Reached.{Named}
 use Rattle.schema.specs.Table.{Within, cells, code, decided, contents, Table}
 use Rattle.finish.specs.Reply.{Reply, reply, outcome_of, count_of}
-use Rattle.walk.specs.Walk.{RightTable}
-use Rattle.trail.specs.State.{Counts}
+use Rattle.walk.specs.Walk.{Counts, RightTable}
 
 -- What asking over a table is handed: codes of at most 5 + n, whatever else they say.
 pub record OverReady (rule : ℕ → Rule) (input : List ℕ) (v A p : ℕ) (table work : List ℕ) : Type 0 where

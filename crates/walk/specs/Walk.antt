@@ -7,10 +7,8 @@ use Rattle.schema.specs.Derivation.{Pair, ◌at◌, Result, calls, act, second, 
 use Rattle.schema.specs.Examined.{Examines}
 use Rattle.schema.specs.Reached.{Reached, Named}
 use Rattle.schema.specs.Table.{Within, cell, cells, decided, held, reach}
-use Rattle.step.specs.Codes.{Settled, Walkable}
-use Rattle.trail.specs.State.{open_mark}
-use Rattle.finish.specs.Ended.{outcome_of, named_of}
-use Rattle.trail.specs.Closing.{Trail}
+use Rattle.step.specs.Codes.{open_mark, Settled, Walkable}
+use Rattle.finish.specs.Closing.{Trail, outcome_of, named_of}
 use Rattle.step.specs.declared.Walk.{Walk}
 use Rattle.step.specs.declared.Walk.TheVariants as walk
 
@@ -39,6 +37,10 @@ pub record WalkReady (rule : ℕ → Rule) (s : List ℕ) (v A p : ℕ) (T W : L
   pub opened : held (length s) T (A at p) ≡ open_mark
   pub no_open : (i : ℕ) → i < cells v (length s) → held_at (before (length s) (A at p) T) i ≢ open_mark
   pub work_room : cells v (length s) ≤ length W
+
+-- Of the first N cells, so many were given their first number between the tables T and T'.
+abbrev pub Counts : ℕ → List ℕ → List ℕ → ℕ → Type 0
+Counts N T T' count = decided N T' ≡ decided N T + count
 
 -- How many callers the work slice holds.
 abbrev pub depth_of : Walk → ℕ

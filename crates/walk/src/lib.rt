@@ -7,16 +7,14 @@ ghost use Rattle.schema.specs.Table.{cell, cells, held};
 ghost use Rattle.step.specs.Codes.{Unsettled};
 ghost use Rattle.step.specs.declared.Walk.TheVariants.{Settled};
 ghost use Rattle.finish.specs.Reply.{told};
-ghost use Rattle.walk.specs.Walk.{WalkReady, WalkEnds, before};
-ghost use Rattle.trail.specs.State.{Counts};
+ghost use Rattle.walk.specs.Walk.{WalkReady, Counts, WalkEnds, before};
 ghost use Rattle.walk.specs.Over.{OverReady, Over};
 
 use cells::{Cell, cell_number};
 use finish::{Answer, finish};
 use grammar::sheet::Rules;
 use rules::{Act, act_at, leaf_reach};
-use step::{Step, Walk, advance};
-use trail::{State, newly};
+use step::{State, Step, Walk, advance, newly};
 
 // How a walk ended, and how many cells it gave their first number.
 #[derive(Drop)]

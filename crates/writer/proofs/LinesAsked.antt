@@ -19,7 +19,7 @@ use Rattle.finish.specs.Reply.{Reply, reply, outcome_of}
 use Rattle.memo.specs.Answer.{Says}
 use Rattle.step.specs.Codes.{Settled}
 use Rattle.cells.proofs.Numbers.{cells_small}
-use Rattle.cells.proofs.Cleared.{cleared, cleared_at, cleared_length, cleared_later}
+use Rattle.walk.proofs.Cleared.{cleared, cleared_at, cleared_length, cleared_later}
 use Rattle.writer.specs.Writer.{Lines, SaysWriting}
 use Rattle.lines.specs.Turning.{no_link}
 use Rattle.writer.specs.Writing.{WriteReady, WriteEnds, AskWriteReady, LinesReady, has_result}

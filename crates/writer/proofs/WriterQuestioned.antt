@@ -39,8 +39,8 @@ by_tests n out g false false false true = refl
 by_tests n out g false false false false = refl
 
 module _ (s input : List ℕ) (A p table work out : ℕ) where
-  then_tested : (g : Grammar) → checked (call_condition g.variables (writer_of input (A at p) table work out)) call_order g
-      ≡ with_output (length input) out (checked (call_condition g.variables (question_of input (A at p) table work)) call_order g)
+  then_tested : (g : Grammar) → checked (call_condition g (writer_of input (A at p) table work out)) call_order g
+      ≡ with_output (length input) out (checked (call_condition g (question_of input (A at p) table work)) call_order g)
   unfolding checked call_condition
   then_tested g =
       by_tests (length input) out g (ltb 4096 (length input)) (pair_variable_out g.variables (A at p)) (pair_position_out (length input) (A at p))

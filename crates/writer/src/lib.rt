@@ -10,11 +10,11 @@ ghost use Rattle.finish.specs.Reply.{told};
 ghost use Rattle.writer.specs.Writer.{SaysWriting, WriterPromise};
 ghost use Rattle.writer.specs.Writing.{StepReady, Steps, LinesReady, WriteReady, WriteEnds, AskWriteReady, has_result};
 
-use cells::{Caller, Cell, blank, cell_number, too_small};
+use cells::{Caller, Cell, blank, cell_number};
 use finish::Answer;
 use grammar::sheet::{Rules, Sheet};
 use lines::{Stand, Turn, lay_line, link_down, note_line, turn_at};
-use memo::ask;
+use memo::{ask, too_small};
 use rules::admit;
 
 // What a step comes to: the next place, or the count of lines at the end.

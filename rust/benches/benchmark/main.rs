@@ -2,18 +2,13 @@
 //!
 //! It prints the tables of docs/BENCHMARKS.md. valgrind, lua5.4, lua-lpeg and peg are Debian's packages; where valgrind is absent, its columns stay
 //! empty. With `--calls SUBJECT COUNT` it only makes the calls of one subject, which is what valgrind counts; with `--corrections`, `--openings`,
-//! `--further`, `--archive`, `--verdicts` or `--outcomes` it prints the table of corrections, of openings, of further questions, of stored tables, of
-//! verdicts or of questions with more than two outcomes only.
+//! `--further`, `--archive` or `--verdicts` it prints the table of corrections, of openings, of further questions, of stored tables or of verdicts only.
 mod archive;
-#[path = "../../tests/outcomes/carried.rs"]
-mod carried;
 mod correction;
 mod fastest;
 mod further;
 mod machine;
 mod opening;
-mod outcomes;
-mod outcomes_twin;
 mod peers;
 mod plain;
 mod reading;
@@ -539,16 +534,13 @@ fn checker_row(q: &Question, reading: &[u8]) {
     row("checker, lines", reading.len() as u32 / 49, &mut subjects);
 }
 
-/// Makes the calls of one subject, `0/proved`, `society0/proved`, `outcomes0/twin` or `read60/plain`.
+/// Makes the calls of one subject, `0/proved`, `society0/proved` or `read60/plain`.
 fn only_calls(subject: &str, calls: usize) {
     let (part, name) = subject.split_once('/').expect("a part and a name");
     if let Some(rules) = part.strip_prefix("read") {
         let question = sheets::register(rules.parse().expect("a number"), 80);
         let name = if name == "proved" { "proved" } else { "plain" };
         return (read_subject(name, &question.sheet).1)(calls);
-    }
-    if let Some(number) = part.strip_prefix("outcomes") {
-        return outcomes::only_calls(number.parse().expect("a number"), name, calls);
     }
     let question = match part.strip_prefix("society") {
         Some(number) => &society_questions()[number.parse::<usize>().expect("a number")],
@@ -559,13 +551,12 @@ fn only_calls(subject: &str, calls: usize) {
 }
 
 /// The tables that can be asked for by themselves.
-const ALONE: [(&str, fn()); 6] = [
+const ALONE: [(&str, fn()); 5] = [
     ("--corrections", correction::table),
     ("--openings", opening::table),
     ("--further", further::table),
     ("--archive", archive::table),
     ("--verdicts", verdict::table),
-    ("--outcomes", outcomes::table),
 ];
 
 fn main() {

@@ -29,7 +29,7 @@ pub const fn class(byte: u8) -> u8 {
     }
 }
 
-pub fn field(columns: &[u8]) -> Option<u32> {
+fn field(columns: &[u8]) -> Option<u32> {
     let first = columns.iter().position(|b| *b != b' ')?;
     let digits = &columns[first..];
     if digits.len() > 1 && digits[0] == b'0' {

@@ -3,8 +3,7 @@
  *
  * A case on standard input is a rule sheet, or a text of the shorthand, and then an entry, each as its length, a line feed and its bytes. Every question is
  * about variable 1 at 0, but for the further one, which is about variable 1 behind the last byte. The byte at 0 is corrected to another one and back. What
- * is lent is filled with 7 before. The table that the reading's question leaves is stored, and restored elsewhere. A sheet with more than two outcomes has
- * three, and of each two the second counts.
+ * is lent is filled with 7 before. The table that the reading's question leaves is stored, and restored elsewhere.
  */
 #include "entryreader.h"
 #include <stdio.h>
@@ -125,23 +124,6 @@ static void questions(void)
     print("table", table, SHOWN);
 }
 
-/* g(i,j) = j for three outcomes. */
-static const uint32_t g[64] = {
-    1, 2, 3, 0, 0, 0, 0, 0,
-    1, 2, 3, 0, 0, 0, 0, 0,
-    1, 2, 3, 0, 0, 0, 0, 0,
-};
-
-static void outcomes(void)
-{
-    uint32_t answer[4];
-    lend(answer, 4);
-    uint32_t returned = entryreader_outcomes(
-        sheet, sheet_length, entry, entry_length, 1, 0, &g, table, NUMBERS, work, CELLS, &answer);
-    report("outcomes", returned, answer, 4);
-    print("table", table, SHOWN);
-}
-
 /* The lines of the reading are printed as they are, and then checked. */
 static void reading(void)
 {
@@ -178,7 +160,6 @@ int main(void)
         verdicts();
         opening();
         questions();
-        outcomes();
         reading();
         archive();
     }

@@ -50,8 +50,7 @@ impl std::fmt::Display for Case {
     }
 }
 
-/// A line of a sheet.
-pub fn row<const FIELDS: usize>(numbers: [u64; FIELDS]) -> String {
+pub fn row(numbers: [u64; 5]) -> String {
     numbers.map(|x| format!("{x:>5}")).concat() + "\n"
 }
 
@@ -240,40 +239,39 @@ pub fn old_entry(random: &mut Random, entry: &[u8]) -> (Vec<u8>, u32) {
     (old, c)
 }
 
-/// A field of a line, which begins here, with another number in it.
-fn other_field(random: &mut Random, sheet: &mut [u8], from: usize, line: usize) {
+/// A field of the sheet with another number in it.
+fn other_field(random: &mut Random, sheet: &mut [u8], from: usize) {
     let number = random.pick(&[0, 1, 2, 3, 4, 5, 6, 7, 8, 9, 255, 256, 257, 99999]);
-    let start = from + 5 * random.index(line / 5);
+    let start = from + 5 * random.index(5);
     sheet[start..start + 5].copy_from_slice(format!("{number:>5}").as_bytes());
 }
 
-/// Damages a sheet with lines of so many bytes: a byte, a field, a line, or its length. Some damaged sheets are still valid.
-pub fn damage(random: &mut Random, sheet: &mut Vec<u8>, line: usize) {
+/// Damages a sheet: a byte, a field, a line, or its length. Some damaged sheets are still valid.
+fn damage(random: &mut Random, sheet: &mut Vec<u8>) {
     let at = random.index(sheet.len());
     let byte = random.pick(b" 0123456789\n-a");
-    let lines = sheet.len() / line;
-    let (one, other) = (line * random.index(lines), line * random.index(lines));
+    let lines = sheet.len() / 26;
+    let (one, other) = (26 * random.index(lines), 26 * random.index(lines));
     match random.below(10) {
         0 => sheet[at] = byte,
         1 => sheet.insert(at, byte),
         2 => drop(sheet.remove(at)),
-        3 => sheet.swap(at, line - 1),
-        4 => other_field(random, sheet, 0, line),
-        5 | 6 => other_field(random, sheet, one, line),
-        7 => (0..line).for_each(|i| sheet.swap(one + i, other + i)),
-        8 => sheet.extend_from_within(one..one + line),
+        3 => sheet.swap(at, 25),
+        4 => other_field(random, sheet, 0),
+        5 | 6 => other_field(random, sheet, one),
+        7 => (0..26).for_each(|i| sheet.swap(one + i, other + i)),
+        8 => sheet.extend_from_within(one..one + 26),
         _ => {
-            let lengths = [0, line - 1, line, line + 1, 2 * line];
-            let long = [257 * line, 258 * line, 259 * line - 1];
-            let length = random.pick(&[&lengths[..], &long].concat());
-            sheet.extend(sheet[one..one + line].repeat(260));
+            let length = random.pick(&[0, 25, 26, 27, 52, 26 * 257, 26 * 258, 26 * 259 - 1]);
+            let line = sheet[one..one + 26].to_vec();
+            sheet.extend(line.repeat(260));
             sheet.truncate(length);
         }
     }
 }
 
 /// A pair of the sheet and the entry; sometimes none.
-pub fn asked(random: &mut Random, variables: u64, length: usize) -> Pair {
+fn asked(random: &mut Random, variables: u64, length: usize) -> Pair {
     let variable = match random.below(40) {
         0 => random.pick(&[0, variables + 1, 1 << 31]),
         1..33 => 1,
@@ -308,7 +306,7 @@ pub fn case(random: &mut Random) -> Case {
     let (sheet, entry) = sheet_and_entry(random, variables, length);
     let mut case = Case::new(sheet, &entry, 0);
     if random.one_in(4) {
-        damage(random, &mut case.sheet, 26);
+        damage(random, &mut case.sheet);
     }
     let variables = (case.cells / (entry.len() + 1)) as u64;
     case.asked = asked(random, variables, entry.len());

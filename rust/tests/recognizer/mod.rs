@@ -92,7 +92,7 @@ pub struct Size {
 }
 
 /// "blanks (byte 32), then digits, no leading zero, zero written `0`"
-pub fn field(columns: &[u8]) -> Option<u32> {
+fn field(columns: &[u8]) -> Option<u32> {
     let text = std::str::from_utf8(columns).ok()?;
     let digits = text.trim_start_matches(' ');
     let written = digits.bytes().all(|b| b.is_ascii_digit());
@@ -192,7 +192,7 @@ pub fn sheet(bytes: &[u8]) -> Result<([u32; 3], [u32; 256]), Refused> {
 
 /// The class of a byte of ISO 8859-1: "192-214 and 216-222 are class 2; 223-246 and 248-255 are class 3; 160 is class 4; 161-191, 215 and 247 are
 /// class 5; 128-159 are class 6", and below 128 as document 01 has it.
-pub fn class(byte: u8) -> u32 {
+fn class(byte: u8) -> u32 {
     match byte {
         b'0'..=b'9' => 1,
         b'A'..=b'Z' | 192..=214 | 216..=222 => 2,
@@ -286,6 +286,32 @@ impl<'a> Recognizer<'a> {
         }
     }
 
+    fn reached(&mut self, asked: Pair) -> HashSet<Pair> {
+        let mut reached = HashSet::from([asked]);
+        let mut left = vec![asked];
+        while let Some(pair) = left.pop() {
+            for next in self.called(pair) {
+                if reached.insert(next) {
+                    left.push(next);
+                }
+            }
+        }
+        reached
+    }
+
+    /// Follows the waiting to where it ends, or to the first pair met a second time.
+    fn named(&mut self, asked: Pair) -> Pair {
+        let mut met = HashSet::new();
+        let mut pair = asked;
+        while met.insert(pair) {
+            match self.called(pair).last() {
+                Some(next) => pair = *next,
+                None => return pair,
+            }
+        }
+        pair
+    }
+
     /// "A leaf of kind 0 or 1 reaches its place; a byte or class rule reaches one past it", at n too: n + 1. "Kind 4 has the greater reach of its two
     /// called pairs"; loop and missing have reach 0.
     fn reach(&mut self, pair: Pair, reaches: &mut HashMap<Pair, u32>) -> u32 {
@@ -330,30 +356,6 @@ impl<'a> Recognizer<'a> {
         sizes.insert(pair, size);
         size
     }
-}
-
-/// The pairs that a pair reaches, by those that each of them calls.
-pub fn reached(asked: Pair, mut called: impl FnMut(Pair) -> Vec<Pair>) -> HashSet<Pair> {
-    let mut reached = HashSet::from([asked]);
-    let mut left = vec![asked];
-    while let Some(pair) = left.pop() {
-        let new = called(pair).into_iter();
-        left.extend(new.filter(|next| reached.insert(*next)));
-    }
-    reached
-}
-
-/// Follows the waiting, for the last pair that each calls, to where it ends, or to the first pair met a second time.
-pub fn named(asked: Pair, mut called: impl FnMut(Pair) -> Vec<Pair>) -> Pair {
-    let mut met = HashSet::new();
-    let mut pair = asked;
-    while met.insert(pair) {
-        match called(pair).last() {
-            Some(next) => pair = *next,
-            None => return pair,
-        }
-    }
-    pair
 }
 
 pub fn code(outcome: Outcome) -> u32 {
@@ -446,11 +448,11 @@ pub fn opening(sheet: &[u8], entry: &[u8], table: usize, work: usize) -> Result<
 
 fn answer(recognizer: &mut Recognizer, asked: Pair, size: usize) -> Answered {
     let outcome = recognizer.outcome(asked);
-    let reached = reached(asked, |pair| recognizer.called(pair));
+    let reached = recognizer.reached(asked);
     let cells = reached.len() as u32;
     let named = match outcome {
         Outcome::Success(_) | Outcome::Failure => None,
-        _ => Some(named(asked, |pair| recognizer.called(pair))),
+        _ => Some(recognizer.named(asked)),
     };
     let width = recognizer.entry.len() + 1;
     let mut table = vec![0; 2 * size];

@@ -1,8 +1,7 @@
 use mathlib.Core.Path.{refl, subst}
 use Rattle.finish.specs.Finish.{FinishReady}
 use Rattle.step.specs.declared.Walk.TheVariants as walk
-use Rattle.finish.proofs.Finished.{finishes}
-use Rattle.trail.proofs.Closing.{none_closes}
+use Rattle.finish.proofs.Finished.{none_closes, finishes}
 use borrow.Author.Rules.{rules}
 use Rattle.finish.proofs.finish.Statement.{statement}
 use Rattle.finish.proofs.finish.Tie as tie

@@ -8,10 +8,8 @@ use Rattle.schema.specs.Cells.{HasCell}
 use Rattle.schema.specs.Derivation.{success, failure}
 use Rattle.schema.proofs.Cell.{cell_below}
 use Rattle.step.specs.Codes.{Fits, Settled}
-use Rattle.step.specs.Step.{settled_before}
-use Rattle.trail.specs.State.{called_of}
-use Rattle.step.proofs.Looking.{failure_settled, success_settled}
-use Rattle.trail.proofs.Fresh.{held_is, reach_is}
+use Rattle.step.specs.Step.{called_of, settled_before}
+use Rattle.step.proofs.Looking.{held_is, reach_is, failure_settled, success_settled}
 use Rattle.step.proofs.Stepped.{step_bounds, resume_ready, steps_resume}
 use borrow.Author.Rules.{rules}
 use Rattle.step.proofs.advance.Statement.{statement}

@@ -9,8 +9,7 @@ use Rattle.schema.specs.Table.{cell}
 use Rattle.schema.proofs.Cells.{stored_reach}
 use Rattle.schema.proofs.Examined.{success_reach}
 use Rattle.step.specs.Codes.{Settled}
-use Rattle.step.specs.Step.{leaf_settled}
-use Rattle.trail.specs.State.{called_of}
+use Rattle.step.specs.Step.{called_of, leaf_settled}
 use Rattle.step.proofs.Looking.{failure_settled, leaf_end}
 use Rattle.step.proofs.Stepped.{step_bounds, resume_ready, steps_resume, opens_called}
 use borrow.Author.Rules.{rules}

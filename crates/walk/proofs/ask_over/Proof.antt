@@ -6,8 +6,7 @@ use lib.ListN.{length}
 use Rattle.schema.specs.Cells.{HasCell}
 use Rattle.schema.specs.Derivation.{◌at◌, success, failure}
 use Rattle.schema.proofs.Cell.{cell_below}
-use Rattle.step.proofs.Looking.{failure_settled, success_settled}
-use Rattle.trail.proofs.Fresh.{held_is}
+use Rattle.step.proofs.Looking.{held_is, failure_settled, success_settled}
 use Rattle.walk.proofs.Overs.{over_in, over_settled}
 use borrow.Author.Rules.{rules}
 use Rattle.walk.proofs.ask_over.Statement.{statement}

@@ -4,10 +4,10 @@ use lib.ListN.{length}
 use Rattle.grammar.specs.Words.{rule_in}
 use Rattle.schema.specs.Derivation.{◌at◌}
 use Rattle.schema.specs.Table.{cells, held}
-use Rattle.trail.specs.State.{called_of}
+use Rattle.step.specs.Step.{called_of}
 use Rattle.walk.specs.Walk.{before}
 use Rattle.walk.proofs.Counting.{Counting, count_small, counts_on, counts_end}
-use Rattle.trail.proofs.Fresh.{fresh_small}
+use Rattle.step.proofs.Looking.{fresh_small}
 use Rattle.walk.proofs.Still.{table_length}
 use Rattle.step.proofs.Stepped.{step_bounds}
 use Rattle.walk.proofs.Stepping.{to_do, stands_first, ready_still, goes_on, ends}

@@ -1,7 +1,7 @@
 use mathlib.Core.Path.{sym, ap, ◌∙◌, subst}
 use Prim.Native.Nat.{ℕ}
 use native.Mathlib.Omega.{arith}
-use Rattle.trail.specs.State.{open_mark}
+use Rattle.step.specs.Codes.{open_mark}
 use Rattle.walk.proofs.Overs.{over_in, over_may_walk, over_may_finish, over_small, over_answer}
 use borrow.Author.Rules.{rules}
 use Rattle.walk.proofs.walk_over.Statement.{statement}

@@ -1,22 +1,21 @@
--- `read_fields` reads the fields one by one. Assumes nothing.
-use mathlib.Core.Path.{refl}
+-- `read_fields` reads five fields one by one. Assumes nothing.
+use mathlib.Core.Option.{some}
+use mathlib.Core.Path.{refl, sym, ap, ◌∙◌}
 use Prim.Native.Nat.{◌-◌}
 use native.Mathlib.Omega.{arith}
-use lib.ListN.{length}
-use Rattle.columns.proofs.Parts.{Reading, starts, stops, reads_on, all_read}
-use Rattle.grammar.proofs.LineRead.{read_all, read_none}
+use Rattle.columns.proofs.Parts.{Reading, starts, stops, reads_on, all_read, five_of_law}
 use borrow.Author.Rules.{rules}
 use Rattle.grammar.proofs.sheet.read_fields.Statement.{statement}
 use Rattle.grammar.proofs.sheet.read_fields.Tie as tie
 
 abbrev invariant-loop : tie.invariant-loop
-invariant-loop line numbers₀ here₀ k₀ numbers here k = Reading 5 (length numbers₀) line numbers here k
+invariant-loop line numbers₀ here₀ k₀ numbers here k = Reading 5 5 line numbers here k
 
 abbrev decreases-loop : tie.decreases-loop
-decreases-loop line numbers₀ here₀ k₀ numbers here k = length numbers₀ - k
+decreases-loop line numbers₀ here₀ k₀ numbers here k = 5 - k
 
 loop-holds : tie.Need-loop-init invariant-loop decreases-loop
-loop-holds c = starts 5 _ _ _ refl
+loop-holds c = starts 5 5 _ _ refl
 
 five-requires : tie.Need-five-requires invariant-loop decreases-loop
 five-requires c κs = search rules
@@ -27,17 +26,14 @@ enum-known-x c = search rules
 enum_told : tie.Need-enum-told invariant-loop decreases-loop
 enum_told c = search rules
 
-same_length : tie.Need-same-length invariant-loop decreases-loop
-same_length c = c.before.before.before.before.loop.invariant.room
-
 returns : tie.Need-returns invariant-loop decreases-loop
-returns c = read_none (stops 5 _ _ c.before.before.before.before.loop.invariant (omega arith) c.before.before.five.ensures c.enum_told.given.1)
+returns c = sym (stops 5 5 _ c.before.before.before.before.loop.invariant (omega arith) c.before.before.five.ensures c.enum_told.given.1)
 
 mul-numbers : tie.Need-overflow-mul-numbers invariant-loop decreases-loop
 mul-numbers c = search rules
 
-slice-write-numbers : tie.Need-slice-write-numbers invariant-loop decreases-loop
-slice-write-numbers c = search rules
+array-write-numbers : tie.Need-array-write-numbers invariant-loop decreases-loop
+array-write-numbers c = search rules
 
 add-k : tie.Need-overflow-add-k invariant-loop decreases-loop
 add-k c = search rules
@@ -46,13 +42,27 @@ loop-less : tie.Need-loop-smaller invariant-loop decreases-loop
 loop-less c = search rules
 
 loop-again : tie.Need-loop-preserved invariant-loop decreases-loop
-loop-again c = reads_on 5 _ _ c.before.before.before.before.before.loop.invariant (omega arith) c.before.before.before.five.ensures c.before.x.given.1
+loop-again c = reads_on 5 5 _ c.before.before.before.before.before.loop.invariant (omega arith) c.before.before.before.five.ensures c.before.x.given.1
 
-same-length-2 : tie.Need-same-length-2 invariant-loop decreases-loop
-same-length-2 c = c.before.loop.invariant.room
+array-read-t14 : tie.Need-array-read-t14 invariant-loop decreases-loop
+array-read-t14 c = search rules
+
+array-read-t17 : tie.Need-array-read-t17 invariant-loop decreases-loop
+array-read-t17 c = search rules
+
+array-read-t20 : tie.Need-array-read-t20 invariant-loop decreases-loop
+array-read-t20 c = search rules
+
+array-read-t23 : tie.Need-array-read-t23 invariant-loop decreases-loop
+array-read-t23 c = search rules
+
+array-read-t26 : tie.Need-array-read-t26 invariant-loop decreases-loop
+array-read-t26 c = search rules
 
 returns-2 : tie.Need-returns-2 invariant-loop decreases-loop
-returns-2 c = read_all (all_read 5 _ _ c.before.loop.invariant (omega arith))
+returns-2 c =
+    let L = c.before.loop in
+    ap some (five_of_law L.numbers L.invariant.room) ∙ sym (all_read 5 5 _ L.invariant (omega arith))
 
 pub read-fields-spec : {M : Type 1} → statement M
 read-fields-spec =
@@ -64,12 +74,15 @@ read-fields-spec =
     five-requires
     enum-known-x
     enum_told
-    same_length
     returns
     mul-numbers
-    slice-write-numbers
+    array-write-numbers
     add-k
     loop-less
     loop-again
-    same-length-2
+    array-read-t14
+    array-read-t17
+    array-read-t20
+    array-read-t23
+    array-read-t26
     returns-2)

@@ -1,11 +1,8 @@
 -- `read_line` reads the five fields of a line, or finds one that is not of the form. Assumes nothing.
-use mathlib.Core.Option.{some}
-use mathlib.Core.Path.{sym, ap, ◌∙◌}
+use mathlib.Core.Path.{sym, ◌∙◌}
 use native.Mathlib.Omega.{arith}
-use Rattle.columns.proofs.Parts.{width, fields_within, fields_short, five_of_law}
-use Rattle.columns.proofs.Rows.{fields_length}
-use Rattle.grammar.proofs.LineRead.{read_within}
-use borrow.Author.Tests.{not-true, not-false}
+use Rattle.columns.specs.Column.{fields}
+use Rattle.columns.proofs.Parts.{width, fields_within, fields_short}
 use borrow.Author.Rules.{rules}
 use Rattle.grammar.proofs.sheet.read_line.Statement.{statement}
 use Rattle.grammar.proofs.sheet.read_line.Tie as tie
@@ -33,41 +30,14 @@ part-read-fields-start c = search rules
 part-read-fields-end : tie.Need-slice-bounds-read-fields-end
 part-read-fields-end c = search rules
 
-slice-aggregate-read-fields : tie.Need-slice-aggregate-read-fields
-slice-aggregate-read-fields c = search rules
-
 read-fields-requires : tie.Need-read-fields-requires
 read-fields-requires c κs = search rules
 
 returns-3 : tie.Need-returns-3
 unfolding width
 returns-3 c =
-    let a = c.before.before.before.before.before.before.before.before.args in
-    let w = read_within c.before.before.read-fields.ensures (fields_within 5 a.s.now 5 a.at (omega (arith, c.before.before.before.before.before.if2.false, c.before.before.before.before.before.before.if1.false))) in
-    sym (w.fault (not-true _ c.if3.true))
-
-array-read-t15 : tie.Need-array-read-t15
-array-read-t15 c = search rules
-
-array-read-t18 : tie.Need-array-read-t18
-array-read-t18 c = search rules
-
-array-read-t21 : tie.Need-array-read-t21
-array-read-t21 c = search rules
-
-array-read-t24 : tie.Need-array-read-t24
-array-read-t24 c = search rules
-
-array-read-t27 : tie.Need-array-read-t27
-array-read-t27 c = search rules
-
-returns-4 : tie.Need-returns-4
-unfolding width
-returns-4 c =
-    let a = c.before.before.before.before.before.before.before.before.args in
-    let w = read_within c.before.before.read-fields.ensures (fields_within 5 a.s.now 5 a.at (omega (arith, c.before.before.before.before.before.if2.false, c.before.before.before.before.before.before.if1.false))) in
-    let e = w.read (not-false _ c.if3.false) in
-    ap some (five_of_law _ (fields_length 5 5 a.s.now a.at _ e)) ∙ sym e
+    let a = c.before.before.before.before.before.args in
+    c.read-fields.ensures ∙ fields_within 5 a.s.now 5 a.at (omega (arith, c.before.before.if2.false, c.before.before.before.if1.false))
 
 pub read-line-spec : {M : Type 1} → statement M
 read-line-spec =
@@ -80,12 +50,5 @@ read-line-spec =
     sub-read-fields
     part-read-fields-start
     part-read-fields-end
-    slice-aggregate-read-fields
     read-fields-requires
-    returns-3
-    array-read-t15
-    array-read-t18
-    array-read-t21
-    array-read-t24
-    array-read-t27
-    returns-4)
+    returns-3)

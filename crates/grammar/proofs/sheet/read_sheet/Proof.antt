@@ -3,8 +3,7 @@ use Rattle.grammar.specs.declared.sheet.RuleLines.{RuleLines}
 use native.Mathlib.Omega.{arith}
 use Rattle.grammar.specs.Reading.{header_says, rules_say, Stored}
 use Rattle.grammar.proofs.Words.{words_none}
-use Rattle.grammar.proofs.Ends.{lines_whole}
-use Rattle.grammar.proofs.Whole.{header_read, header_in_range, sheet_not_lines, sheet_header_refused, sheet_rules_refused, sheet_accepted, header_says_law, promise_refused, promise_accepted}
+use Rattle.grammar.proofs.Whole.{lines_whole, header_read, header_in_range, sheet_not_lines, sheet_header_refused, sheet_rules_refused, sheet_accepted, header_says_law, promise_refused, promise_accepted}
 use borrow.Author.Rules.{rules}
 use Rattle.grammar.proofs.sheet.read_sheet.Statement.{statement}
 use Rattle.grammar.proofs.sheet.read_sheet.Tie as tie
@@ -30,7 +29,7 @@ read-rules-requires : tie.Need-read-rules-requires
 read-rules-requires c κs =
     let s = c.before.before.before.before.before.before.before.before.args.s.now in
     let h = header_read s _ _ _ (sym (ap header_says c.before.before.grammar.given.1) ∙ c.before.before.before.before.read-header.ensures) in
-    let w = lines_whole 26 s (sym (sym c.before.before.before.before.before.if1.false ∙ c.before.before.before.before.before.before.not_lines_law.ensures)) in
+    let w = lines_whole s (sym (sym c.before.before.before.before.before.if1.false ∙ c.before.before.before.before.before.before.not_lines_law.ensures)) in
     let r = header_in_range s h.in_range in
     record {
       variables_are = h.variables_are;

@@ -1,2 +1,0 @@
--- Reading a sheet of the multiple failure schema.
-pub mod Reading

@@ -1,3 +1,0 @@
--- One step of the walk over the multiple failure schema.
-pub mod Arrays
-pub mod Step

@@ -1,3 +1,0 @@
--- The open pairs of a walk.
-pub mod State
-pub mod Closing
