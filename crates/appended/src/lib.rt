@@ -1,1 +1,2 @@
 // Text added at the end of an input: definitions and laws.
+#![tactic(auto)]

@@ -1,4 +1,6 @@
 // Tables stored by position, and restored: rows of cells turned into columns.
+#![tactic(auto)]
+
 ghost use Rattle.std.specs.Prelude.{◌≡◌, ◌≤◌};
 ghost use Rattle.schema.specs.Cells.{held_at, reach_at, stored, HasCell};
 ghost use Rattle.archive.specs.Archive.{told, StorePromise, RestorePromise};

@@ -1,4 +1,6 @@
 // The backtracking machine.
+#![tactic(auto)]
+
 ghost use Rattle.std.specs.Prelude.{cond, List, ◌∷◌, ◌≡◌, ℕ, ◌+◌, ◌*◌, ◌/◌, ◌≤◌, length};
 ghost use Rattle.grammar.specs.Refusal.{accepted};
 ghost use Rattle.grammar.specs.Words.{rule_in};
@@ -23,7 +25,7 @@ pub enum Ending {
 }
 
 // The machine's state but for the frames: the flag, true for s; the position; the moves made; the number of frames.
-#[derive(Drop)]
+#[derive(Clone, Copy)]
 struct Registers {
     flag: bool,
     position: u32,

@@ -40,13 +40,13 @@ module _ {X Y A E : Type 0} (σ : System X A E) (τ : System Y A E) (f : X → Y
 
     -- and back.
     pub done_back : {x : X} {y : Y} {a : A} {k h : ℕ} → R x → y ≡ f x → Done τ y a k h → Done σ x a k h
-    done_back r s (leaf p) = leaf (sym (kind_back r s) ∙ p)
+    done_back {x = x} r s (leaf p) = leaf (sym (kind_back r s) ∙ p)
     done_back {x = x} r s (node {a = a} {c = c} {k = k} {l = l} {g = g} {h = h} q d e) =
         let q' = sym (kind_back r s) ∙ q in
         let u = agree.firsts x r q' in
-        let d' = done_back u.1 (ap τ.first s ∙ u.0) d in
+        let d' = done_back {x = σ.first x} u.1 (ap τ.first s ∙ u.0) d in
         let v = agree.seconds x a r q' (k, g, d') in
-        let e' = done_back v.1 (ap (λ (w : Y). τ.second w a) s ∙ v.0) e in
+        let e' = done_back {x = σ.second x a} v.1 (ap (λ (w : Y). τ.second w a) s ∙ v.0) e in
         subst (λ (b : A). Done σ x b (k + l + 1) (max g h + 1)) (sym (ap (λ (w : Y). τ.join w a c) s ∙ agree.joins x a c r)) (node q' d' e')
 
     halt_over : {e : E} {x : X} → R x → Halt σ e x → Halt τ e (f x)
@@ -59,17 +59,17 @@ module _ {X Y A E : Type 0} (σ : System X A E) (τ : System Y A E) (f : X → Y
         by_second (agree.kinds x r ∙ q) (first_over r q d) (subst (Halt τ e) (sym v.0) (halt_over v.1 i))
 
     halt_back : {e : E} {x : X} {y : Y} → R x → y ≡ f x → Halt τ e y → Halt σ e x
-    halt_back r s (stop p) = stop (sym (kind_back r s) ∙ p)
+    halt_back {x = x} r s (stop p) = stop (sym (kind_back r s) ∙ p)
     halt_back {x = x} r s (by_first q i) =
         let q' = sym (kind_back r s) ∙ q in
         let u = agree.firsts x r q' in
-        by_first q' (halt_back u.1 (ap τ.first s ∙ u.0) i)
+        by_first q' (halt_back {x = σ.first x} u.1 (ap τ.first s ∙ u.0) i)
     halt_back {x = x} r s (by_second {a = a} {k = k} {h = h} q d i) =
         let q' = sym (kind_back r s) ∙ q in
         let u = agree.firsts x r q' in
-        let d' = done_back u.1 (ap τ.first s ∙ u.0) d in
+        let d' = done_back {x = σ.first x} u.1 (ap τ.first s ∙ u.0) d in
         let v = agree.seconds x a r q' (k, h, d') in
-        by_second q' d' (halt_back v.1 (ap (λ (w : Y). τ.second w a) s ∙ v.0) i)
+        by_second q' d' (halt_back {x = σ.second x a} v.1 (ap (λ (w : Y). τ.second w a) s ∙ v.0) i)
 
     -- Every answer carries over, and back.
     pub means_iff : (x : X) (o : Answer A E) → R x → Means σ x o ↔ Means τ (f x) o

@@ -1,1 +1,2 @@
 // The theory of the table walk: proofs only.
+#![tactic(auto)]

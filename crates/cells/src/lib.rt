@@ -1,4 +1,6 @@
 // Cells of a lent table: what one holds, the number of a pair's cell, a caller as one number, and blanking.
+#![tactic(auto)]
+
 ghost use Rattle.std.specs.Prelude.{◌≡◌, ◌++◌, ◌+◌, ◌/◌, ◌%◌, max, ◌≤◌, eqb, length, drop, replicate};
 ghost use Rattle.schema.specs.Cells.{held_at, reach_at, stored, HasCell};
 ghost use Rattle.schema.specs.Derivation.{◌at◌};
@@ -7,7 +9,7 @@ ghost use Rattle.cells.specs.Packed.{entry};
 
 // What a cell of the table holds: the number of an outcome (document 01: blank, failure, loop, missing, or success ending at a position), and its
 // reach (document 02, order 6), 0 in what the calls store but for success and failure.
-#[derive(Drop)]
+#[derive(Clone, Copy)]
 pub struct Cell(pub u32, pub u32);
 
 impl Cell {
@@ -81,7 +83,7 @@ pub fn cell_number(n: usize, variable: u32, position: u32) -> usize
 }
 
 // A caller: a pair, and whether what it called is its second call.
-#[derive(Drop)]
+#[derive(Clone, Copy)]
 pub struct Caller {
     pub variable: u32,
     pub position: u32,

@@ -1,4 +1,6 @@
 // The checker of certificates. A certificate is what document 01 calls a reading: a derivation written out so that it can be checked.
+#![tactic(auto)]
+
 ghost use Rattle.std.specs.Prelude.{cond, ◌&&◌, ◌≡◌, ◌*◌, ◌≤◌, eqb, length};
 ghost use Rattle.std.proofs.Math.Option.{none, some};
 ghost use Rattle.columns.specs.Column.{fields};
@@ -20,7 +22,7 @@ pub enum Claim {
 }
 
 // The six numbers of a line; the outcome is 0 for success and 1 for failure, the last two are the numbers of the called pairs' lines.
-#[derive(Drop)]
+#[derive(Clone, Copy)]
 struct Line {
     variable: u32,
     start: u32,

@@ -37,6 +37,7 @@ module _ (b low high class : ℕ) (l : low ≤ b) (h : b ≤ high) where
   -- So one of the ranges at least holds it.
   held : (rs : List Range) → Memᴰ (range low high class) rs → 1 ≤ holding rs b
   unfolding holding
+  held [] x' = elim x' [ ]
   held (r ∷ rs) (Memᴰ.head e) =
       let first = subst (λ (t : Bool). 1 ≤ cond t (suc (holding rs b)) (holding rs b)) (sym inside) (omega arith) in
       subst (λ (x : Range). 1 ≤ holding (x ∷ rs) b) e first
@@ -50,6 +51,7 @@ module _ (b low high class : ℕ) (l : low ≤ b) (h : b ≤ high) where
   -- So the class is that of the range.
   found : (rs : List Range) → holding rs b ≤ 1 → Memᴰ (range low high class) rs → class_in rs b ≡ class
   unfolding holding class_in
+  found [] n x'' = elim x'' [ ]
   found (r ∷ rs) n (Memᴰ.head e) =
       subst (λ (x : Range). class_in (x ∷ rs) b ≡ class) e (ap (λ (t : Bool). cond t class (class_in rs b)) inside)
   found (range low' high' other ∷ rs) n (Memᴰ.tail m) =

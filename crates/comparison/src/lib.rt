@@ -1,4 +1,6 @@
 // An input compared with the same before one of its bytes was corrected.
+#![tactic(auto)]
+
 ghost use Rattle.std.specs.Prelude.{◌≡◌, ◌≤◌, ◌<◌, length};
 ghost use Rattle.kept.specs.Differs.{differs_elsewhere};
 ghost use Rattle.comparison.specs.Between.{differs_between};

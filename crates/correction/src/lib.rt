@@ -1,4 +1,6 @@
 // Questions over a table that was kept: about an entry of which one byte was corrected, and further ones about the same entry.
+#![tactic(auto)]
+
 ghost use Rattle.correction.specs.Correction.{CorrectionPromise};
 
 use comparison::differs_elsewhere;

@@ -1,1 +1,2 @@
 // What the demands ask of the calls together: proofs only.
+#![tactic(auto)]

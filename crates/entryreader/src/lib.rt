@@ -1,4 +1,6 @@
 // The calls for programs in other languages.
+#![tactic(auto)]
+
 ghost use Rattle.std.specs.Prelude.{◌≤◌, ◌≡◌};
 ghost use Rattle.schema.specs.Exported.{returned, reported, Fits};
 ghost use Rattle.grammar.specs.Promise.{told as read};

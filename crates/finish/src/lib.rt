@@ -1,4 +1,6 @@
 // The end of a question: closes what the walk left open, and answers.
+#![tactic(auto)]
+
 ghost use Rattle.std.specs.Prelude.{◌≡◌};
 ghost use Rattle.grammar.specs.Refusal.{accepted};
 ghost use Rattle.schema.specs.Derivation.{◌at◌, result};

@@ -64,7 +64,9 @@ lines_read before n (xs ∷ xss) l e o =
     let rest = lines_read (before ++ row 5 xs) (n + 1) xss l.2 next (rw moved (line_ended s n o ended)) in
     let k : n + 1 + 1 ≡ suc (n + 1) = omega arith in
     let m : n + suc (length xss) ≡ n + 1 + length xss = omega arith in
-    ((here, rw (← k, ← moved) rest.0), rw (m, ← moved) rest.1)
+    let lines : LinesAt s (suc (n + 1)) xss = rw (← k, ← moved) rest.0 in
+    let closed : open_line s (n + suc (length xss)) ≡ false = rw (m, ← moved) rest.1 in
+    ((here, lines), closed)
 
 -- The lines of a text are read as their numbers.
 pub text_read : (xss : List (List ℕ)) → Lines xss → LinesAt (text xss) 1 xss

@@ -1,2 +1,4 @@
 // The rule sheet of a grammar.
+#![tactic(auto)]
+
 pub mod sheet;

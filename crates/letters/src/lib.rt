@@ -1,4 +1,6 @@
 // The letters of a text of the societies' shorthand, numbered by first appearance.
+#![tactic(auto)]
+
 ghost use Rattle.std.specs.Prelude.{true, [], ◌≡◌, ◌≤◌};
 ghost use Rattle.notation.specs.Capitals.{capitals};
 ghost use Rattle.notation.specs.Text.{firsts, capital};

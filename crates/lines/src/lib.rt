@@ -1,5 +1,7 @@
 // The lines of a certificate (document 01: a reading), one at a time: what is next at a pair of the finished table, its line, and what is noted in
 // the work slice.
+#![tactic(auto)]
+
 ghost use Rattle.std.specs.Prelude.{◌≡◌, ◌++◌, ◌+◌, ◌*◌, ◌≤◌, ◌<◌, length, set, take, drop};
 ghost use Rattle.grammar.specs.Words.{rule_in};
 ghost use Rattle.schema.specs.Cells.{HasCell};

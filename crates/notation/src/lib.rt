@@ -1,1 +1,2 @@
 // The societies' shorthand: definitions and laws.
+#![tactic(auto)]

@@ -1,4 +1,6 @@
 // The opening that already loops: the least number of an input's first bytes on which the start variable at 0 loops.
+#![tactic(auto)]
+
 ghost use Rattle.grammar.specs.Words.{rule_in};
 ghost use Rattle.schema.specs.Derivation.{◌at◌};
 ghost use Rattle.memo.specs.Ask.{AskReady};

@@ -1,4 +1,6 @@
 // The whole output of the program `readentry`.
+#![tactic(auto)]
+
 ghost use Rattle.std.specs.Prelude.{length};
 ghost use Rattle.output.specs.Output.{StartOf, Certificate, OutputPromise};
 

@@ -2,6 +2,8 @@
 // blanking what does not stay. Cells at positions below a limit are blanked: up to the corrected byte for a correction, none for a further question. On
 // sheets as societies write them nearly all cells are blank: the first pass skips them in blocks, and notes for each row from where on the second has
 // something to blank.
+#![tactic(auto)]
+
 ghost use Rattle.std.specs.Prelude.{cond, ◌&&◌, ◌≡◌, ◌+◌, ◌*◌, ◌≤◌, eqb, length};
 ghost use Rattle.schema.specs.Cells.{cell_at, stored, HasCell};
 ghost use Rattle.schema.specs.Table.{contents};

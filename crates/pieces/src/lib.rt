@@ -1,5 +1,7 @@
 // The pieces of a text of the societies' shorthand (document 02, order 1): choices, rows and items. Three readers that call each other, with a loop
 // in two of them, so that only brackets nest calls. Each stores the rules of what it reads.
+#![tactic(auto)]
+
 ghost use Rattle.std.specs.Prelude.{◌≡◌, true, ℕ, ◌+◌, ◌-◌, ◌≤◌, ◌<◌, get_or};
 ghost use Rattle.grammar.specs.Rule.{Rule, byte, call};
 ghost use Rattle.grammar.specs.Words.{word};

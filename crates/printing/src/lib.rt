@@ -1,4 +1,6 @@
 // Writes the rule sheet of an array of rules.
+#![tactic(auto)]
+
 ghost use Rattle.std.specs.Prelude.{◌≡◌, ◌+◌, ◌/◌, ◌≤◌, length};
 ghost use Rattle.columns.specs.Column.{row};
 ghost use Rattle.grammar.specs.Printing.{text, rule_numbers, rule_rows, rules_of};

@@ -1,4 +1,6 @@
 // The numbers of an answer, of a written reading and of a claim, for programs in other languages.
+#![tactic(auto)]
+
 ghost use Rattle.std.specs.Prelude.{◌≡◌};
 ghost use Rattle.schema.specs.Exported.{returned, reported, Fits};
 ghost use Rattle.finish.specs.Reply.{told};

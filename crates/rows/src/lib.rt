@@ -1,4 +1,6 @@
 // Decimal numbers in fixed columns, written: a field, and a row of fields.
+#![tactic(auto)]
+
 ghost use Rattle.std.specs.Prelude.{◌≡◌, ◌+◌, ◌*◌, length};
 ghost use Rattle.columns.specs.Column.{column, row};
 ghost use Rattle.rows.specs.Leading.{leading_byte};

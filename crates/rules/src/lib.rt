@@ -1,4 +1,6 @@
 // The functions that look at a rule, and the tests of what every question is handed.
+#![tactic(auto)]
+
 ghost use Rattle.std.specs.Prelude.{cond, ◌≡◌, ℕ, ◌≤◌, eqb, length, get_or};
 ghost use Rattle.classes.specs.Class.{class_of};
 ghost use Rattle.grammar.specs.Words.{rule_in, first_in, second_in};

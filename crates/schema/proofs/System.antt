@@ -102,7 +102,7 @@ module _ (rule : ℕ → Rule) (s : List ℕ) where
   from_done (theory.node {x = x} q d e) = node_at x q (from_done d) (from_done e)
 
   -- Missing is its halt,
-  pub to_halt : {x : Pair} {w : Stop} → Stops rule s w x → Halt (gts rule s) w x
+  pub to_halt : {w : Stop} {x : Pair} → Stops rule s w x → Halt (gts rule s) w x
   unfolding gts
   to_halt (here e) = theory.stop (ap kind_of e)
   to_halt {w = w} (in_first {A} {B} {C} {D} {p} e i) = theory.by_first (ap kind_of e) (subst (Halt (gts rule s) w) (sym (first_is A p e)) (to_halt i))
@@ -125,7 +125,7 @@ module _ (rule : ℕ → Rule) (s : List ℕ) where
       (subst (Stops rule s w) (second_is A p c.3 t) i)
 
   -- and back.
-  pub from_halt : {x : Pair} {w : Stop} → Halt (gts rule s) w x → Stops rule s w x
+  pub from_halt : {w : Stop} {x : Pair} → Halt (gts rule s) w x → Stops rule s w x
   unfolding gts
   from_halt {w = w} (theory.stop {x = x} q) = here (kind_stuck (act rule s x) w q)
   from_halt {w = w} (theory.by_first {x = x} q i) = first_stops w x q (from_halt i)

@@ -1,1 +1,2 @@
 // What a rule sheet means: definitions and their laws only.
+#![tactic(auto)]

@@ -1,4 +1,6 @@
 // Rule sheets from the societies' shorthand (document 02, order 1).
+#![tactic(auto)]
+
 ghost use Rattle.std.specs.Prelude.{◌≡◌, ◌≤◌, length};
 ghost use Rattle.pieces.specs.Store.{number_held};
 ghost use Rattle.shorthand.specs.Lines.{opens_line, Names, LineReady, LineReads, LinesReady, LinesRead};

@@ -1,4 +1,6 @@
 // One step of the walk over a lent table: the called pair is looked up, and settled, opened or gone on with.
+#![tactic(auto)]
+
 ghost use Rattle.std.specs.Prelude.{◌≡◌, ◌/◌, ◌%◌, ◌≤◌, ◌<◌, eqb, length, set};
 ghost use Rattle.grammar.specs.Words.{rule_in};
 ghost use Rattle.schema.specs.Cells.{stored, HasCell};
@@ -14,7 +16,7 @@ use rules::{Act, act_at, first_of, leaf_reach, second_of};
 
 // Where the walk stands: the latest open pair; the pair that it calls, a variable and its position, the target; whether that is its second call;
 // and how many callers the work slice holds.
-#[derive(Drop)]
+#[derive(Clone, Copy)]
 pub struct State {
     pub variable: u32,
     pub position: u32,

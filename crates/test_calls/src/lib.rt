@@ -1,5 +1,7 @@
 // The machine, the writer and the checker for tests and benchmarks in other languages.
 // Each call returns 0 with its numbers in `answer`, or 100 plus the number of a refusal, with everything lent to it unchanged.
+#![tactic(auto)]
+
 ghost use Rattle.std.specs.Prelude.{◌≡◌};
 ghost use Rattle.schema.specs.Exported.{returned, reported, Fits};
 ghost use Rattle.backtrack.specs.Run.{told as ended};

@@ -1,5 +1,7 @@
 // Reads cases from standard input, each a line with the lengths of a sheet and of an input in 8 columns, then the sheet and the input; prints for
 // each what `readentry` prints.
+#![tactic(auto)]
+
 use columns::{Cursor, Field};
 use libc::STDIN_FILENO;
 

@@ -50,6 +50,8 @@
 // The codes: 0 success or done, 1 failure, 2 loop, 3 missing, 6 spent, 7 no frame, 8 no opening, 9 refused. Table and output are filled
 // before each call but a correction and a further question, so that their sums also show what a call must leave unchanged; of two tables the
 // one that is written to is filled. A table's sum is over outcomes and reaches alike.
+#![tactic(auto)]
+
 ghost use Rattle.std.specs.Prelude.{◌<◌, ◌≤◌};
 ghost use Rattle.io.specs.Counts.{IsPrefixLen};
 

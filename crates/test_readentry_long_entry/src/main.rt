@@ -1,4 +1,6 @@
 // An entry of 4,097 bytes.
+#![tactic(auto)]
+
 fn main() {
     output::program::run();
 }

@@ -1,4 +1,6 @@
 // No sheet file: it counts as empty.
+#![tactic(auto)]
+
 fn main() {
     output::program::run();
 }

@@ -1,6 +1,8 @@
 // Reads sheets from standard input, each after a line with its length in 8 columns, and prints a line
 // for each, in fields of 8 columns: the number and the line of its refusal; or 0, V, the start variable
 // and the endmarker byte.
+#![tactic(auto)]
+
 use columns::{Cursor, Field};
 use grammar::sheet::Sheet;
 use libc::{STDIN_FILENO, STDOUT_FILENO};

@@ -15,6 +15,8 @@
 // its length: 5 plus the end for success, 1 failure, 2 loop, 3 missing, 0 a refusal.
 //
 // After the requests come four long texts that are made here, with the number 0.
+#![tactic(auto)]
+
 ghost use Rattle.io.specs.Counts.{IsPrefixLen};
 
 use columns::{Cursor, Field};

@@ -1,4 +1,6 @@
 // The verdict: the question about the start variable at position 0.
+#![tactic(auto)]
+
 ghost use Rattle.std.specs.Prelude.{◌≡◌, length};
 ghost use Rattle.schema.specs.Handed.{verdict_of};
 ghost use Rattle.rules.specs.Admission.{Admits};

@@ -1,4 +1,6 @@
 // One walk over one lent table, from any table: what a pair has, found by calls and looked up in the table, the callers in a lent work slice.
+#![tactic(auto)]
+
 ghost use Rattle.std.specs.Prelude.{◌≡◌, ℕ, ◌+◌, ◌≤◌, length};
 ghost use Rattle.grammar.specs.Words.{rule_in};
 ghost use Rattle.schema.specs.Cells.{stored, HasCell};

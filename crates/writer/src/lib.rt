@@ -1,4 +1,6 @@
 // The writer: asks a question, and for success and failure writes its certificate (document 01: a reading).
+#![tactic(auto)]
+
 ghost use Rattle.std.specs.Prelude.{◌≡◌, ◌++◌, ◌+◌, ◌*◌, ◌≤◌, ◌<◌, ltb, length, set, take, drop};
 ghost use Rattle.grammar.specs.Refusal.{Checked};
 ghost use Rattle.grammar.specs.Words.{rule_in};

@@ -1,0 +1,5 @@
+use mathlib.Core.Path.{refl}
+use Rattle.cells.proofs.Cell.failure.Goals as goal
+
+pub returns : goal.returns
+returns c = (refl, refl)

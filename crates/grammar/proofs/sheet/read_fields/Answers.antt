@@ -1,0 +1,21 @@
+use mathlib.Core.Option.{some}
+use mathlib.Core.Path.{refl, sym, ap, ◌∙◌}
+use Prim.Native.Nat.{◌-◌}
+use native.Mathlib.Omega.{arith}
+use Rattle.columns.proofs.Parts.{Reading, starts, stops, reads_on, all_read, five_of_law}
+use borrow.Author.Rules.{rules}
+use Rattle.grammar.proofs.sheet.read_fields.Goals as goal
+
+pub loop-k-init : goal.loop-k-init
+loop-k-init c = starts 5 5 _ _ refl
+
+pub returns-in_default : goal.returns-in_default
+returns-in_default c = sym (stops 5 5 _ c.loop-k.invariant (omega arith) c.five.ensures c.in_default.is)
+
+pub loop-k-preserved : goal.loop-k-preserved
+loop-k-preserved c = reads_on 5 5 _ c.loop-k.invariant (omega arith) c.five.ensures c.in-Number.is
+
+pub returns : goal.returns
+returns c =
+    let L = c.loop-k in
+    ap some (five_of_law L.numbers L.invariant.room) ∙ sym (all_read 5 5 _ L.invariant (omega arith))
