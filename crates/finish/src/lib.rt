@@ -3,7 +3,7 @@
 
 ghost use Rattle.std.specs.Prelude.{◌≡◌};
 ghost use Rattle.grammar.specs.Refusal.{accepted};
-ghost use Rattle.schema.specs.Derivation.{◌at◌, result};
+ghost use Rattle.schema.specs.Derivation.{◌at◌, result as derived};
 ghost use Rattle.schema.specs.Table.{cells};
 ghost use Rattle.step.specs.Codes.{Code, result_of};
 ghost use Rattle.finish.specs.Reply.{told, reply};
@@ -36,7 +36,7 @@ fn close(
     work: &[u32],
 )
     requires { CloseReady n variables b q depth outcome.0 outcome.1 table.old work.now }
-    ensures* { λ _. ⌜ Closes (cells variables n) outcome.0 table.old table.new ⌝ }
+    ensures { Closes (cells variables n) outcome.0 table.old table.new }
 {
     let mut a = b;
     let mut p = q;
@@ -56,7 +56,7 @@ fn close(
 // The answer of the number of a result.
 fn settled(code: u32, count: u32) -> Answer
     requires { Code code }
-    ensures* { λ r. ⌜ told r ≡ accepted (reply (result (result_of code)) (0 at 0) count) ⌝ }
+    ensures { told result ≡ accepted (reply (derived (result_of code)) (0 at 0) count) }
 {
     if code == Cell::FAILURE.0 {
         return Answer::Failure(count);
@@ -74,7 +74,7 @@ pub fn finish(
     work: &[u32],
 ) -> Answer
     requires { FinishReady n variables table.old work.now end }
-    ensures* { λ r. ⌜ Finishes n variables end count table.old table.new r ⌝ }
+    ensures { Finishes n variables end count table.old table.new result }
 {
     match end {
         Walk::Settled(code) => settled(code, count),

@@ -30,7 +30,7 @@ after_success C D p c r d h = rw (ne_eqb c 1 d, h)
 
 -- ---- The pair that the latest open pair calls first, when this is settled.
 
-module _ {ws : List ℕ} {n : ℕ} {T W : List ℕ} {x : State} (r : SettleReady (rule_in ws) n T W x) {b i : ℕ} (e : b ≡ first_in ws x.variable) (f : i ≡ cell n (b at x.position)) where
+module _ (ws : List ℕ) {n : ℕ} {T W : List ℕ} {x : State} (r : SettleReady (rule_in ws) n T W x) {b i : ℕ} (e : b ≡ first_in ws x.variable) (f : i ≡ cell n (b at x.position)) where
   called_first : (B C D : ℕ) → rule_in ws x.variable ≡ call B C D → i ≡ cell n (B at x.position)
   called_first B C D h = f ∙ ap (λ (X : ℕ). cell n (X at x.position)) (e ∙ first_in_law ws x.variable B C D h)
 

@@ -99,7 +99,7 @@ resume_ready r T₁ e c code = record { settle = settle_ready r T₁ e; code_is 
 
 module _ (rule : ℕ → Rule) (s : List ℕ) where
   -- The result of a pair that was looked up is held.
-  pub looked_held : (T : List ℕ) {T' : List ℕ} (y : Pair) {r : Result} → HasCell T (cell (length s) y) → LookedUp rule s T y r T' → Settled (length s) (held (length s) T' y) r
+  pub looked_held : (T : List ℕ) (y : Pair) {T' : List ℕ} {r : Result} → HasCell T (cell (length s) y) → LookedUp rule s T y r T' → Settled (length s) (held (length s) T' y) r
   looked_held T y l (settled_before m) = m
   looked_held T y {r = r} l (leaf_settled {c} {m = k} u e m f) =
       subst (λ (j : ℕ). Settled (length s) j r) (sym (stored_there T (cell (length s) y) c k l)) m
