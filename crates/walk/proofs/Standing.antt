@@ -80,11 +80,13 @@ module _ (rule : ℕ → Rule) (s : List ℕ) (v : ℕ) (x : Pair) (w : PairWith
           let o = Memᴰ.of_map (pair_of (length s)) (i ∷ r) m in
           let e : o.0 ≡ j = sym (cell_pair (length s) o.0) ∙ ap (cell (length s)) o.2 ∙ cell_pair (length s) j in
           n (subst (λ (u : ℕ). In u (i ∷ r)) e (mem_in o.0 (i ∷ r) o.1))
+  trail_pairs {d = d} theory.bottom x4 = elim x4 [ ]
 
 -- With no caller in the work slice, the top is the asked pair.
 pub at_bottom : {rule : ℕ → Rule} {s T W : List ℕ} {σ : System ℕ Result Stop} {M : ℕ → Mark Result} {root i : ℕ} {l : List ℕ} → theory.Trail σ M root (i ∷ l)
     → Stacked rule s T W 0 (i ∷ l) → i ≡ root
 at_bottom theory.start alone = refl
+at_bottom {rule = rule} {s = s} {T = T} {W = W} {σ = σ} {M = M} {root = root} {i = i} (theory.push _ _ _) x15 = elim x15 [ ]
 
 -- There is room for one caller more.
 pub deep_enough : {rule : ℕ → Rule} {s : List ℕ} {v : ℕ} {x : Pair} {O T W l : List ℕ} {d : ℕ} → Through rule s v x O T l → Stacked rule s T W d l
