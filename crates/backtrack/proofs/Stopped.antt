@@ -51,7 +51,7 @@ module _ (rule : ℕ → Rule) (input : List ℕ) where
             ∙ ap (λ i. ran (says (stopped w)) i) (omega arith);
       }
 
-  halts_of : {x : Pair} {w : Stop} → Stops rule input w x → Halts x w
+  halts_of : {w : Stop} {x : Pair} → Stops rule input w x → Halts x w
   halts_of {w = w} (here {x} e) =
       record {
         moves = 0;

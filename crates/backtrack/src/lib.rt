@@ -5,7 +5,7 @@ ghost use Rattle.std.specs.Prelude.{cond, List, ◌∷◌, ◌≡◌, ℕ, ◌+�
 ghost use Rattle.grammar.specs.Refusal.{accepted};
 ghost use Rattle.grammar.specs.Words.{rule_in};
 ghost use Rattle.rules.specs.Act.{told as does};
-ghost use Rattle.schema.specs.Derivation.{◌at◌, result, success, failure};
+ghost use Rattle.schema.specs.Derivation.{◌at◌, result as ended_with, success, failure};
 ghost use Rattle.schema.specs.Machine.{Frame, frame, stage0, stage0_of, Next, step};
 ghost use Rattle.backtrack.specs.Run.{told, RunsTo, Runs};
 ghost use Rattle.backtrack.specs.Frames.{flag_of, stack_in, state_in, pushed, Valid, Says, Plans, at_last, Turns};
@@ -51,7 +51,7 @@ enum Turn {
 
 // Where a call comes back to: the position on success, the start on failure.
 fn back(flag: bool, position: u32, start: u32) -> u32
-    ensures* { λ r. ⌜ r ≡ cond flag position start ⌝ }
+    ensures { result ≡ cond flag position start }
 {
     if flag {
         return position;
@@ -61,7 +61,7 @@ fn back(flag: bool, position: u32, start: u32) -> u32
 
 // The outcome with no frame left.
 fn bottom(x: Registers) -> Ending
-    ensures* { λ r. ⌜ Says x.moves (result (cond x.flag (success x.position) failure)) r ⌝ }
+    ensures { Says x.moves (ended_with (cond x.flag (success x.position) failure)) result }
 {
     if x.flag {
         return Ending::Success(x.position, x.moves);
@@ -71,7 +71,7 @@ fn bottom(x: Registers) -> Ending
 
 // What comes next at stage 0, by what the rule does.
 fn plan_of(act: Act, x: Registers) -> Plan
-    ensures* { λ r. ⌜ ((X i : ℕ) (stack : List Frame) → Plans x.moves (frame X i stage0 ∷ stack) (stage0_of (does act) (flag_of x.flag) X i x.position x.moves stack) r) ⌝ }
+    ensures { (X i : ℕ) (stack : List Frame) → Plans x.moves (frame X i stage0 ∷ stack) (stage0_of (does act) (flag_of x.flag) X i x.position x.moves stack) result }
 {
     match act {
         Act::Success(end) => Plan::Pop(true, end),
@@ -84,7 +84,7 @@ fn plan_of(act: Act, x: Registers) -> Plan
 // What comes next.
 fn peek(rules: &[u32; 256], input: &[u8], frames: &[u32], x: Registers) -> Plan
     requires { (length input.now ≤ 4096) × Valid (rule_in rules.now) frames.now x }
-    ensures* { λ r. ⌜ Plans x.moves (stack_in frames.now x.depth) (step (rule_in rules.now) input.now (state_in frames.now x)) r ⌝ }
+    ensures { Plans x.moves (stack_in frames.now x.depth) (step (rule_in rules.now) input.now (state_in frames.now x)) result }
 {
     if x.depth == 0 {
         return Plan::End(bottom(x));
@@ -105,7 +105,7 @@ fn peek(rules: &[u32; 256], input: &[u8], frames: &[u32], x: Registers) -> Plan
 // A frame at stage 0 above the first `depth` frames.
 fn put_frame(frames: &mut [u32], depth: usize, variable: u32, position: u32)
     requires { depth * 3 + 3 ≤ length frames.old }
-    ensures* { λ r. ⌜ stack_in frames.new (depth + 1) ≡ frame variable position stage0 ∷ stack_in frames.old depth ⌝ }
+    ensures { stack_in frames.new (depth + 1) ≡ frame variable position stage0 ∷ stack_in frames.old depth }
 {
     let base = depth * 3;
     frames[base] = variable;
@@ -116,7 +116,7 @@ fn put_frame(frames: &mut [u32], depth: usize, variable: u32, position: u32)
 // The top frame at another stage, and a frame above it.
 fn push(frames: &mut [u32], depth: usize, stage: u32, variable: u32, position: u32)
     requires { (1 ≤ depth) × (depth * 3 + 3 ≤ length frames.old) }
-    ensures* { λ r. ⌜ stack_in frames.new (depth + 1) ≡ pushed stage variable position (stack_in frames.old depth) ⌝ }
+    ensures { stack_in frames.new (depth + 1) ≡ pushed stage variable position (stack_in frames.old depth) }
 {
     frames[depth * 3 - 1] = stage;
     put_frame(frames, depth, variable, position);
@@ -124,7 +124,7 @@ fn push(frames: &mut [u32], depth: usize, stage: u32, variable: u32, position: u
 
 // With the budget used: the outcome if there is one, else spent.
 fn last(plan: Plan, moves: u32) -> Ending
-    ensures* { λ r. ⌜ ((stack : List Frame) (next : Next) → Plans moves stack next plan → told r ≡ accepted (at_last next moves)) ⌝ }
+    ensures { (stack : List Frame) (next : Next) → Plans moves stack next plan → told result ≡ accepted (at_last next moves) }
 {
     match plan {
         Plan::End(ending) => ending,
@@ -136,7 +136,7 @@ fn last(plan: Plan, moves: u32) -> Ending
 // One move; or what ends the run before it: an outcome, else spent, else no frame.
 fn advance(rules: &[u32; 256], input: &[u8], frames: &mut [u32], x: Registers, budget: u32) -> Turn
     requires { (length input.now ≤ 4096) × (x.moves ≤ budget) × Valid (rule_in rules.now) frames.old x }
-    ensures* { λ r. ⌜ Turns (rule_in rules.now) input.now budget (length frames.old / 3) (state_in frames.old x) frames.new r ⌝ }
+    ensures { Turns (rule_in rules.now) input.now budget (length frames.old / 3) (state_in frames.old x) frames.new result }
 {
     let plan = peek(rules, input, frames, x);
     let left = budget - x.moves;
@@ -181,7 +181,7 @@ fn run_rules(
     budget: u32,
 ) -> Ending
     requires { (1 ≤ variable) × (variable ≤ 256) × (length input.now ≤ 4096) }
-    ensures* { λ r. ⌜ RunsTo (rule_in rules.now) input.now (variable at position) frames.old frames.new budget r ⌝ }
+    ensures { RunsTo (rule_in rules.now) input.now (variable at position) frames.old frames.new budget result }
 {
     if frames.len() < 3 {
         return Ending::NoFrame(0);
@@ -215,7 +215,7 @@ pub fn run(
     frames: &mut [u32],
     budget: u32,
 ) -> Ending
-    ensures* { λ r. ⌜ Runs sheet.now input.now (variable at position) frames.old frames.new budget r ⌝ }
+    ensures { Runs sheet.now input.now (variable at position) frames.old frames.new budget result }
 {
     let mut rules: Rules = [0u32; 256];
     let admission = admit(sheet, input, variable, position, &mut rules);

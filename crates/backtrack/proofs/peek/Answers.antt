@@ -1,0 +1,54 @@
+use mathlib.Core.Path.{◌∙◌}
+use Prim.Native.Nat.{◌-◌, ◌*◌}
+use native.Mathlib.Omega.{arith}
+use lib.ListN.{get_or}
+use Rattle.grammar.specs.Words.{rule_in}
+use Rattle.rules.proofs.RuleWords.{second_in_law}
+use Rattle.rules.specs.Act.{told}
+use Rattle.backtrack.proofs.Plans.{sound_top, right_bottom, right_stage0, right_stage1, right_stage2}
+use borrow.Author.Rules.{rules}
+use Rattle.backtrack.proofs.peek.Goals as goal
+
+-- `peek` plans the machine's next step. Assumes nothing.
+pub bottom-requires : goal.bottom-requires
+bottom-requires c = search rules
+
+pub returns-then-x-eq0 : goal.returns-then-x-eq0
+returns-then-x-eq0 c =
+    let a = c.args in
+    right_bottom (rule_in a.rules.now) a.input.now a.frames.now a.x.position a.x.moves a.x.depth a.x.flag
+    c.bottom.result c.if-x-eq0.true c.bottom.ensures
+
+pub act_at-requires : goal.act_at-requires
+act_at-requires c =
+    let a = c.args in
+    let t = sound_top (rule_in a.rules.now) a.frames.now a.x.depth (omega arith) c.requires.1.sound in
+    (t.low, t.high, c.requires.0)
+
+pub returns-then-stage-eq0 : goal.returns-then-stage-eq0
+returns-then-stage-eq0 c =
+    let a = c.args in
+    right_stage0 (rule_in a.rules.now) a.input.now a.frames.now a.x.position a.x.moves a.x.depth a.x.flag
+    (told c.act_at.result) c.plan_of.result (omega arith) c.if-stage-eq0.true c.act_at.ensures
+    c.plan_of.ensures
+
+pub second_of-requires : goal.second_of-requires
+second_of-requires c =
+    let a = c.args in
+    let t = sound_top (rule_in a.rules.now) a.frames.now a.x.depth (omega arith) c.requires.1.sound in
+    (t.low, t.high)
+
+pub returns-then-stage-eq1 : goal.returns-then-stage-eq1
+returns-then-stage-eq1 c =
+    let a = c.args in
+    let t = sound_top (rule_in a.rules.now) a.frames.now a.x.depth (omega arith) c.requires.1.sound in
+    let k = t.called c.if-stage-eq1.true in
+    right_stage1 (rule_in a.rules.now) a.input.now a.frames.now a.x.position a.x.moves a.x.depth a.x.flag
+    c.second_of.result c.back-position.result (omega arith) c.if-stage-eq1.true k
+    (c.second_of.ensures ∙ second_in_law a.rules.now (get_or a.frames.now ((a.x.depth - 1) * 3) 0) k.0 k.1 k.2 a.x.flag k.3) c.back-position.ensures
+
+pub returns : goal.returns
+returns c =
+    let a = c.args in
+    right_stage2 (rule_in a.rules.now) a.input.now a.frames.now a.x.position a.x.moves a.x.depth a.x.flag
+    c.back-position.result (omega arith) c.if-stage-eq0.false c.if-stage-eq1.false c.back-position.ensures

@@ -1,0 +1,14 @@
+use mathlib.Core.Path.{refl, ◌∙◌}
+use Prim.Native.Nat.{◌-◌}
+use native.Mathlib.Omega.{arith}
+use borrow.Author.Rules.{rules}
+use Rattle.grammar.specs.Words.{rule_in}
+use Rattle.backtrack.proofs.Loop.{Head, no_room, begins, on_end, on_move}
+use Rattle.backtrack.proofs.run_rules.Given as goal
+
+-- `run_rules` comes to what the machine comes to. Assumes nothing.
+abbrev pub invariant-loop-ending : goal.invariant-loop-ending
+invariant-loop-ending l = Head l.rules l.input l.variable l.position l.budget l.initial.frames l.frames l.x
+
+abbrev pub decreases-loop-ending : goal.decreases-loop-ending
+decreases-loop-ending l = l.budget - l.x.moves
