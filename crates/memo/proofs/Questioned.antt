@@ -43,7 +43,7 @@ module _ {s input : List ℕ} {A p : ℕ} {before after : List ℕ} {r : Sheet} 
     follows = question_follows s input A p (length table) (length work) (accepted read.grammar) read.accepts
 
     pub in_bounds : (l.variables ≤ 256) × (length input ≤ 4096)
-    in_bounds = (few_variables s read.grammar accepts read.variables_are read.rules_are, read.input_short)
+    in_bounds = (few_variables s after read.grammar accepts read.variables_are read.rules_are, read.input_short)
 
     module _ {small : Bool} (tested : small ≡ (ltb (length table) (2 * cells l.variables (length input)) || ltb (length work) (cells l.variables (length input)))) where
       pub tested_is : slices_out s input A p (length table) (length work) read.grammar ≡ small
@@ -57,10 +57,10 @@ module _ {s input : List ℕ} {A p : ℕ} {before after : List ℕ} {r : Sheet} 
       -- What asking is handed.
       pub ask_ready : small ≡ false → AskReady (rule_in after) input l.variables A p table work
       ask_ready h =
-          ready s read.grammar accepts read.variables_are read.rules_are input table work A p read.input_short read.pair_within (sym tested ∙ h)
+          ready s after read.grammar accepts read.variables_are read.rules_are input table work A p read.input_short read.pair_within (sym tested ∙ h)
 
       -- The answer.
       pub replies : {table' work' : List ℕ} {t : Checked Reply} → small ≡ false → Says (rule_in after) l.variables input (A at p) table table' work work' t
           → Replies (handed s (question_of input (A at p) (length table) (length work))) input (A at p) table table' work work' t
       replies {table'} {work'} {t} h a =
-          rw (follows, tested_is, h) (says_of s read.grammar accepts read.variables_are read.rules_are input (A at p) table table' work work' t a)
+          rw (follows, tested_is, h) (says_of s after read.grammar accepts read.variables_are read.rules_are input (A at p) table table' work work' t a)

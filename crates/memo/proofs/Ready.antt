@@ -20,7 +20,7 @@ use Rattle.finish.specs.Reply.{Reply}
 use Rattle.memo.specs.Answer.{Says}
 use Rattle.memo.specs.Ask.{AskReady}
 
-module _ (s : List ℕ) {array : List ℕ} {v : ℕ} (g : Grammar) (accepts : sheet s ≡ accepted g) (variables_are : g.variables ≡ v) (rules_are : rule_in array ≡ g.rule) where
+module _ (s array : List ℕ) {v : ℕ} (g : Grammar) (accepts : sheet s ≡ accepted g) (variables_are : g.variables ≡ v) (rules_are : rule_in array ≡ g.rule) where
   pub few_variables : v ≤ 256
   few_variables = subst (λ (n : ℕ). n ≤ 256) variables_are (grammar_in_range s g accepts).1
 
