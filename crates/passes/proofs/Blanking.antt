@@ -79,8 +79,8 @@ retains_none : (n limit : ℕ) (T : List ℕ) → Starts 0 n (retained limit n T
 retains_none n limit T = record { holds = λ A p w. absurd (omega (arith, w.variable.0, w.variable.1)); later = refl; size = refl }
 
 -- The cells from a row on are as they were.
-row_rest : {row n limit : ℕ} {T₀ T : List ℕ} → Starts row n (retained limit n T₀) T₀ T → (p : ℕ) → cell_at T (cells row n + p) ≡ cell_at T₀ (cells row n + p)
-row_rest {row} {n} {T₀ = T₀} {T = T} before = cell_later (cells row n) T T₀ before.later
+row_rest : {row n : ℕ} (limit : ℕ) {T₀ T : List ℕ} → Starts row n (retained limit n T₀) T₀ T → (p : ℕ) → cell_at T (cells row n + p) ≡ cell_at T₀ (cells row n + p)
+row_rest {row} {n} limit {T₀ = T₀} {T = T} before = cell_later (cells row n) T T₀ before.later
 
 -- One row more.
 module _ {row n limit : ℕ} {T₀ T T' : List ℕ} (inside : limit ≤ n) (before : Starts row n (retained limit n T₀) T₀ T) (keeps : Keeps limit (cells row n) (limit) T T') where
@@ -88,7 +88,7 @@ module _ {row n limit : ℕ} {T₀ T T' : List ℕ} (inside : limit ≤ n) (befo
   start = cells row n
 
   rest : (p : ℕ) → cell_at T (start + p) ≡ cell_at T₀ (start + p)
-  rest = row_rest before
+  rest = row_rest limit before
 
   this_row : (p : ℕ) → contents n T' (suc row at p) ≡ retained limit n T₀ (suc row at p)
   this_row p = ap (λ (i : ℕ). cell_at T' i) (row_cell row n p) ∙ by_test (ltb p limit) refl ∙ ap (λ (i : ℕ). kept limit p (cell_at T₀ i)) (sym (row_cell row n p))
@@ -120,7 +120,7 @@ pub row_unchanged : {v n limit row start : ℕ} {T₀ T firsts : List ℕ} → r
 row_unchanged {limit = limit} {row = row} {T = T} {firsts = firsts} l b f = (
   f.low row l,
   λ p m. subst (λ (i : ℕ). kept limit p (cell_at T (i + p)) ≡ cell_at T (i + p)) (sym b.begins)
-      (ap (kept limit p) (row_rest b.retains p) ∙ f.unchanged row l p m ∙ sym (row_rest b.retains p)),
+      (ap (kept limit p) (row_rest limit b.retains p) ∙ f.unchanged row l p m ∙ sym (row_rest limit b.retains p)),
 )
 
 pub blanking_begins : (v n limit : ℕ) (T : List ℕ) → Blanking v n limit T T 0 0
