@@ -14,7 +14,7 @@ use borrow.Author.Tests.{ltb-true, ltb-false}
 use Rattle.schema.specs.Cells.{held_at, reach_at, cell_at, stored, HasCell}
 use Rattle.schema.proofs.Cell.{rows_apart}
 use Rattle.schema.proofs.Cells.{stored_cell, cell_elsewhere, stored_later, stored_length, later_from}
-use Rattle.archive.specs.Turn.{AcrossReady, Across, BlockReady, BlockTurned, BlocksReady, BlocksTurned, TurnReady, Turned}
+use Rattle.archive.specs.Turn.{AcrossReady, Across, BlockReady, BlockTurned, BlocksReady, BlocksTurned, Turned}
 
 -- The next row begins a row further on.
 next_row : (i k : ℕ) → (i + 1) * k ≡ i * k + k
