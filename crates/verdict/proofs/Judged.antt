@@ -88,7 +88,7 @@ module _ (s input table work : List ℕ) {before after : List ℕ} {r : Sheet} (
     pub ask_ready : AskReady (rule_in after) input l.variables l.start 0 table work
     ask_ready =
         let room = handed_slices s asked admitted.grammar admitted.accepts (length table) (length work) refl in
-        ready s admitted.grammar reads admitted.variables_are rules_are input table work l.start 0
+        ready s after admitted.grammar reads admitted.variables_are rules_are input table work l.start 0
         (handed_input s asked admitted.grammar admitted.accepts)
         (subst (λ (A : ℕ). Within admitted.grammar.variables (length input) A 0) admitted.start_is (start_within s admitted.grammar reads))
         (rw (← admitted.variables_are, le-ltb _ _ room.0, le-ltb _ _ room.1))
