@@ -18,7 +18,7 @@ use Rattle.schema.proofs.Examined.{SameBefore, examines_same, examines_derives}
 use Rattle.schema.proofs.System.{gts}
 use Rattle.schema.proofs.TwoInputs.{act_same, has_same, named_same}
 use Rattle.schema.proofs.Waiting.{from_reach}
-use Rattle.appended.specs.Appended.{NonePastEnd, ComesAgain}
+use Rattle.appended.specs.Appended.{NonePastEnd, Lasting, ComesAgain}
 
 module _ (input added : List ℕ) where
   same_before : (m : ℕ) → m ≤ length input → SameBefore m input (input ++ added)
@@ -64,15 +64,14 @@ module _ (rule : ℕ → Rule) (input added : List ℕ) (x : Pair) where
 
   -- The law of orders 3 and 11 over derivations, outcome by outcome.
   pub comes_again : ComesAgain rule input added x
-  comes_again = record {
-    outcome = λ o. elim o [
-      | result r ↦ λ l h. examines_derives rule (input ++ added) (examines_same rule input (input ++ added) (same_before input added l.0 l.2) l.1)
-      | stopped w ↦ λ l h. has_again l (stopped w) h
-      | loop ↦ λ l h. has_again l loop h
-    ];
-    named = λ o z. elim o [
-      | result r ↦ λ l h n. n
-      | stopped w ↦ λ l h n. named_again l (stopped w) z h n
-      | loop ↦ λ l h n. named_again l loop z h n
-    ];
-  }
+  comes_again = record { outcome = outcome; named = named }
+    where
+      outcome : (o : Outcome) → Lasting rule input x o → Has rule input x o → Has rule (input ++ added) x o
+      outcome (result r) l h = examines_derives rule (input ++ added) (examines_same rule input (input ++ added) (same_before input added l.0 l.2) l.1)
+      outcome (stopped w) l h = has_again l (stopped w) h
+      outcome loop l h = has_again l loop h
+
+      named : (o : Outcome) (z : Pair) → Lasting rule input x o → Has rule input x o → Named rule input x o z → Named rule (input ++ added) x o z
+      named (result r) z l h n = n
+      named (stopped w) z l h n = named_again l (stopped w) z h n
+      named loop z l h n = named_again l loop z h n

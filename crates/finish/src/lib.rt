@@ -15,7 +15,7 @@ use step::Walk;
 
 // What a question is answered, with the count of decided cells: success with its end, failure; loop or a missing rule
 // with the variable and the position that are named; or the number and the line of a refusal.
-#[derive(Drop)]
+#[derive(Clone, Copy)]
 pub enum Answer {
     Success(u32, u32),
     Failure(u32),

@@ -25,7 +25,7 @@ pub enum Turn {
 }
 
 // Where the writer stands: at a pair, with so many lines written.
-#[derive(Drop)]
+#[derive(Clone, Copy)]
 pub struct Stand {
     pub variable: u32,
     pub position: u32,

@@ -1,0 +1,17 @@
+use mathlib.Core.Path.{◌∙◌}
+use lib.ListN.{length}
+use borrow.Author.Rules.{rules}
+use Rattle.grammar.specs.Words.{rule_in}
+use Rattle.schema.specs.Derivation.{◌at◌}
+use Rattle.schema.specs.Table.{cells}
+use Rattle.writer.specs.Writing.{pair_at}
+use Rattle.writer.proofs.Marked.{to_do}
+use Rattle.writer.proofs.Going.{Going, goes_first, may_step, output_length, goes_on, ends}
+use Rattle.writer.proofs.write_from.Given as goal
+
+abbrev pub invariant-loop-next : goal.invariant-loop-next
+invariant-loop-next l =
+    Going (rule_in l.rules) l.input l.variables (l.variable at l.position) l.initial.work l.initial.out l.work l.out (pair_at l.x) l.x.lines
+
+abbrev pub decreases-loop-next : goal.decreases-loop-next
+decreases-loop-next l = to_do l.work (cells l.variables (length l.input))
