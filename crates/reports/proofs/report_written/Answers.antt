@@ -9,8 +9,7 @@ use Rattle.schema.specs.Derivation.{◌at◌}
 use Rattle.schema.specs.Exported.{returned, reported}
 use Rattle.finish.specs.Reply.{Reply, reply, told}
 use Rattle.reports.specs.Numbers.{question_numbers, writer_numbers}
-use Rattle.reports.proofs.report_written.Statement.{statement}
-use Rattle.reports.proofs.report_written.Tie as tie
+use Rattle.reports.proofs.report_written.Goals as goal
 
 -- Where 0 is returned, the four numbers stand before the count of lines.
 five : (o : Checked Reply) (lines : ℕ) (four before answer : List ℕ) → returned o ≡ 0 → four ≡ reported question_numbers before o
@@ -24,41 +23,14 @@ none : (o : Checked Reply) (lines : ℕ) (answer : List ℕ) → (returned o ≡
 none (refused x l) lines answer d = refl
 none (accepted a) lines answer d = absurd (d refl)
 
-report-requires : tie.Need-report-requires
-report-requires c κs = search rules
+pub returns-then-code-eq0 : goal.returns-then-code-eq0
+returns-then-code-eq0 c =
+    let a = c.args in
+    let r = c.report-code in
+    record { returns = r.ensures.returns; reports = five (told a.answer) a.lines _ _ _ (sym r.ensures.returns ∙ c.if-code-eq0.true) r.ensures.reports }
 
-array-read-t11 : tie.Need-array-read-t11
-array-read-t11 c = search rules
-
-array-read-t14 : tie.Need-array-read-t14
-array-read-t14 c = search rules
-
-array-read-t17 : tie.Need-array-read-t17
-array-read-t17 c = search rules
-
-array-read-t20 : tie.Need-array-read-t20
-array-read-t20 c = search rules
-
-returns : tie.Need-returns
-returns c =
-    let a = c.before.before.before.args in
-    let r = c.before.report in
-    (r.ensures.0, five (told a.answer) a.lines _ _ _ (sym r.ensures.0 ∙ c.if1.true) r.ensures.1)
-
-returns-2 : tie.Need-returns-2
-returns-2 c =
-    let a = c.before.before.before.args in
-    let r = c.before.report in
-    (r.ensures.0, none (told a.answer) a.lines _ (λ e. c.if1.false (r.ensures.0 ∙ e)))
-
-pub report-written-spec : {M : Type 1} → statement M
-report-written-spec =
-    tie.close
-    (tie.spec
-    report-requires
-    array-read-t11
-    array-read-t14
-    array-read-t17
-    array-read-t20
-    returns
-    returns-2)
+pub returns-else-code-eq0 : goal.returns-else-code-eq0
+returns-else-code-eq0 c =
+    let a = c.args in
+    let r = c.report-code in
+    record { returns = r.ensures.returns; reports = none (told a.answer) a.lines _ (λ e. c.if-code-eq0.false (r.ensures.returns ∙ e)) }
