@@ -145,6 +145,11 @@ module _ {rule : ℕ → Rule} {number : ℕ → ℕ} {E F : ℕ} {Known : ℕ �
     on_c q o b c (of (item (inside square y))) (a_square a f g) = rw (at_F C q o f c) (must_succeed tt (refused_success (b (not y) a)))
     on_c q o b c (of (row (next r i))) (a_next a h g) = then (b (of (row r)) a) (c (of (item i)) h)
     on_c q o b c (of (choice (or y r))) (a_or a f h) = rw (at_E C q o f c) (counts tt (b (of (choice y)) a))
+    on_c q o b c (of (item (quoted _))) x7 = elim x7 [ ]
+    on_c q o b c (of (item fails)) x7 = elim x7 [ ]
+    on_c q o b c (of (item (inside round y))) x10 = elim x10 [ ]
+    on_c q o b c (of (row empty)) x7 = elim x7 [ ]
+    on_c q o b c (of (choice (only _))) x9 = elim x9 [ ]
 
     -- B fails, and D at p has the outcome.
     on_d : (o : Outcome) → All B p (result failure) → All D p o → (x : Thing) → Core B C D x → Is x p o
@@ -153,6 +158,11 @@ module _ {rule : ℕ → Rule} {number : ℕ → ℕ} {E F : ℕ} {Known : ℕ �
     on_d o b d (of (item (inside square y))) (a_square a f g) = rw (at_E D p o g d) (takes_nothing (refused_failure (b (not y) a)).1)
     on_d o b d (of (row (next r i))) (a_next a h g) = rw (at_F D p o g d) (breaks tt (b (of (row r)) a))
     on_d o b d (of (choice (or y r))) (a_or a f h) = else (b (of (choice y)) a) (d (of (row r)) h)
+    on_d o b d (of (item (quoted _))) x7 = elim x7 [ ]
+    on_d o b d (of (item fails)) x7 = elim x7 [ ]
+    on_d o b d (of (item (inside round y))) x10 = elim x10 [ ]
+    on_d o b d (of (row empty)) x7 = elim x7 [ ]
+    on_d o b d (of (choice (only _))) x9 = elim x9 [ ]
 
     -- B is stopped.
     on_b : (w : Stop) → All B p (stopped w) → (x : Thing) → Core B C D x → Is x p (stopped w)
@@ -161,6 +171,11 @@ module _ {rule : ℕ → Rule} {number : ℕ → ℕ} {E F : ℕ} {Known : ℕ �
     on_b w b (of (item (inside square y))) (a_square a f g) = must_succeed tt (refused_stop (b (not y) a))
     on_b w b (of (row (next r i))) (a_next a h g) = breaks tt (b (of (row r)) a)
     on_b w b (of (choice (or y r))) (a_or a f h) = counts tt (b (of (choice y)) a)
+    on_b w b (of (item (quoted _))) x7 = elim x7 [ ]
+    on_b w b (of (item fails)) x7 = elim x7 [ ]
+    on_b w b (of (item (inside round y))) x10 = elim x10 [ ]
+    on_b w b (of (row empty)) x7 = elim x7 [ ]
+    on_b w b (of (choice (only _))) x9 = elim x9 [ ]
 
   -- ---- A whole derivation.
 
@@ -179,7 +194,7 @@ module _ {rule : ℕ → Rule} {number : ℕ → ℕ} {E F : ℕ} {Known : ℕ �
   done_back (node {A = v} {B = B} {C = C} {D = D} {p = p} {r = r} {t = u} e d f) =
       nodes v p B C D u (result r) (calls_call (rule v) s p B C D e) (done_back d) (done_back f)
 
-  stop_back : {z : Pair} {w : Stop} → Stops rule s w z → Each z (stopped w)
+  stop_back : {w : Stop} {z : Pair} → Stops rule s w z → Each z (stopped w)
   stop_back {w = w} (here {x = z} e) = leaves z (stops w) (stopped w) e refl
   stop_back {w = w} (in_first {A = v} {B = B} {C = C} {D = D} {p = p} e d) =
       let c = calls_call (rule v) s p B C D e in

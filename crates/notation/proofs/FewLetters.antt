@@ -2,7 +2,7 @@
 use mathlib.Core.Bool.{Bool, true, false, cond, ◌||◌, false≢true}
 use mathlib.Core.List.{List, [], ◌∷◌}
 use mathlib.Core.Logic.{◌⊎◌, inl, inr}
-use mathlib.Core.Path.{◌≡◌, refl}
+use mathlib.Core.Path.{◌≡◌, refl, sym, ap, subst}
 use Prim.Native.Nat.{ℕ, zero, suc, ◌+◌, ◌-◌, ◌≤◌}
 use native.Mathlib.Omega.{arith}
 use lib.Dec.{eqb}
@@ -54,7 +54,8 @@ marks_more A seen c n =
     let l = within_bounds 65 90 A c in
     let e : A - 65 + 65 ≡ A = omega arith in
     let old : mark seen (A - 65) ≡ 0 = rw (e, n) in
-    let new : mark (A ∷ seen) (A - 65) ≡ 1 = rw (e, among_first A seen) in
+    let seen_now : among (A - 65 + 65) (A ∷ seen) ≡ true = subst (λ (x : ℕ). among x (A ∷ seen) ≡ true) (sym e) (among_first A seen) in
+    let new : mark (A ∷ seen) (A - 65) ≡ 1 = ap (λ (t : Bool). cond {A = ℕ} t 1 0) seen_now in
     omega (arith, sum_put (mark seen) (mark (A ∷ seen)) (A - 65) 26 (omega arith) (λ y d. rw (ne_eqb (y + 65) A (λ w. d (omega arith)))))
 
 firsts_few : (As seen : List ℕ) → AllCapital As → length (firsts seen As) + sum (mark seen) 26 ≤ 26
