@@ -13,7 +13,7 @@ ghost use Rattle.pieces.specs.Piece.{closing, begins_item, items, rows, choices,
 use grammar::sheet::Rules;
 
 // What was read: the position behind it, the variable that acts as it, the last variable that is taken, the cost so far. The last three stop at 257.
-#[derive(Drop)]
+#[derive(Clone, Copy)]
 pub struct Piece {
     pub at: usize,
     pub variable: u32,
