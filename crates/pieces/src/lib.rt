@@ -12,6 +12,9 @@ ghost use Rattle.pieces.specs.Piece.{closing, begins_item, items, rows, choices,
 
 use grammar::sheet::Rules;
 
+// How deep brackets nest.
+const DEEPEST: u32 = 16;
+
 // What was read: the position behind it, the variable that acts as it, the last variable that is taken, the cost so far. The last three stop at 257.
 #[derive(Clone, Copy)]
 pub struct Piece {
@@ -301,7 +304,7 @@ fn read_item(
     if closing == 0 {
         return read_leaf(s, numbers, always, from, rules);
     }
-    if depth == 16 {
+    if depth == DEEPEST {
         return Read::Fault(16);
     }
     let inner = moved(from, at + 1, from.variable, 3);

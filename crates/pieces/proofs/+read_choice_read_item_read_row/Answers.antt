@@ -55,11 +55,11 @@ opens_here s at b k e f d = opens (get_or s at 0) (λ z. d (f ∙ ap closing e �
 closes_here : (s : List ℕ) (at b k : ℕ) (e : b ≡ get_or s at 0) (f : k ≡ closing b) (d : k ≢ 0) → k ≡ closer (opens_here s at b k e f d).bracket
 closes_here s at b k e f d = f ∙ ap closing e ∙ (opens_here s at b k e f d).closer_is
 
-pub read_item-returns-then-depth-eq16 : goal.read_item-returns-then-depth-eq16
-read_item-returns-then-depth-eq16 t c =
+pub read_item-returns-then-depth-eq-DEEPEST : goal.read_item-returns-then-depth-eq-DEEPEST
+read_item-returns-then-depth-eq-DEEPEST t c =
     let a = c.args in
     let o = opens_here a.s.now a.from.at c.byte_at.result c.closer_of-closing.result c.byte_at.ensures c.closer_of-closing.ensures c.if-closing-eq0.false in
-    too_deep a.s.now a.from.at a.depth o.bracket o.opener_is c.if-depth-eq16.true
+    too_deep a.s.now a.from.at a.depth o.bracket o.opener_is c.if-depth-eq-DEEPEST.true
 
 pub read_item-returns-then-byte_at-closing : goal.read_item-returns-then-byte_at-closing
 read_item-returns-then-byte_at-closing t c =
@@ -69,7 +69,7 @@ read_item-returns-then-byte_at-closing t c =
     let o = opens_here a.s.now a.from.at c.byte_at.result b.result c.byte_at.ensures b.ensures c.if-closing-eq0.false in
     let k = closes_here a.s.now a.from.at c.byte_at.result b.result c.byte_at.ensures b.ensures c.if-closing-eq0.false in
     let f = subst (λ (q : Piece). Finds (choices n a.always) a.s.now (a.depth + 1) q a.rules.now c.in-Found.choice c.read_choice.new.rules) c.moved-inner.ensures c.in-Found.ensures.0 in
-    bracket_refused n a.always a.s.now a.depth a.from a.rules.now c.read_choice.new.rules o.bracket c.in-Found.choice o.opener_is c.if-depth-eq16.false
+    bracket_refused n a.always a.s.now a.depth a.from a.rules.now c.read_choice.new.rules o.bracket c.in-Found.choice o.opener_is c.if-depth-eq-DEEPEST.false
     f c.in-Found.ensures.1 (λ z. c.if-byte_at-closing.true (c.byte_at-in-Found.ensures ∙ z ∙ sym k))
 
 pub read_item-returns-in-Fault : goal.read_item-returns-in-Fault
@@ -77,7 +77,7 @@ read_item-returns-in-Fault t c =
     let a = c.args in
     let b = c.closer_of-closing in
     let o = opens_here a.s.now a.from.at c.byte_at.result b.result c.byte_at.ensures b.ensures c.if-closing-eq0.false in
-    inside_refused (number_held a.numbers.now) a.always a.s.now a.depth a.from a.rules.now a.rules.now o.bracket c.in-Fault.number o.opener_is c.if-depth-eq16.false
+    inside_refused (number_held a.numbers.now) a.always a.s.now a.depth a.from a.rules.now a.rules.now o.bracket c.in-Fault.number o.opener_is c.if-depth-eq-DEEPEST.false
     (subst (λ (q : Piece). Refuses a.s.now (a.depth + 1) q.at (part none empty) c.in-Fault.number) c.moved-inner.ensures (c.in-Fault.ensures tt))
 
 pub read_item-returns-else-byte_at-closing : goal.read_item-returns-else-byte_at-closing
@@ -89,7 +89,7 @@ read_item-returns-else-byte_at-closing t c =
     let k = closes_here a.s.now a.from.at c.byte_at.result b.result c.byte_at.ensures b.ensures c.if-closing-eq0.false in
     let f = subst (λ (q : Piece). Finds (choices n a.always) a.s.now (a.depth + 1) q a.rules.now c.in-Found.choice c.read_choice.new.rules) c.moved-inner.ensures c.in-Found.ensures.0 in
     finds_bracket n a.always a.s.now a.depth a.from c.requires.0.few o.bracket c.in-Found.choice c.in_brackets.result a.rules.now c.read_choice.new.rules c.in_brackets.new.rules
-    o.opener_is c.if-depth-eq16.false f (sym c.byte_at-in-Found.ensures ∙ c.if-byte_at-closing.false ∙ k) (c.in_brackets.ensures n o.bracket k)
+    o.opener_is c.if-depth-eq-DEEPEST.false f (sym c.byte_at-in-Found.ensures ∙ c.if-byte_at-closing.false ∙ k) (c.in_brackets.ensures n o.bracket k)
 
 -- ---- A row.
 

@@ -3,9 +3,6 @@ use native.Mathlib.Omega.{arith}
 use borrow.Author.Rules.{rules}
 use Rattle.shorthand.proofs.write_rules.Goals as goal
 
-pub returns-then-text-gt256 : goal.returns-then-text-gt256
-returns-then-text-gt256 c = record { over = λ l. (refl, refl); short = λ l. absurd (omega arith); writes = λ l. absurd (omega arith) }
-
 pub returns-then-out-text : goal.returns-then-out-text
 returns-then-out-text c = record { over = λ l. absurd (omega arith); short = λ l m. (refl, refl); writes = λ l m. absurd (omega arith) }
 
