@@ -1,0 +1,19 @@
+use mathlib.Core.Path.{refl}
+use native.Mathlib.Omega.{arith}
+use borrow.Author.Rules.{rules}
+use Rattle.entryreader.proofs.report_opening.Goals as goal
+
+pub overflow_add-result : goal.overflow_add-result
+overflow_add-result c = let h = rw c.in-Refused.is at c.requires in omega arith
+
+pub returns-in-Least : goal.returns-in-Least
+returns-in-Least c =
+    rw c.in-Least.is (record { returns = refl; reports = refl })
+
+pub returns-in-None : goal.returns-in-None
+returns-in-None c =
+    rw c.in-None.is (record { returns = refl; reports = refl })
+
+pub returns-in-Refused : goal.returns-in-Refused
+returns-in-Refused c =
+    rw c.in-Refused.is (record { returns = refl; reports = refl })
