@@ -44,7 +44,7 @@ returns-in-Refused c =
     let k : a.count + 1 - l.line ≡ suc (a.count - l.line) = omega arith in
     record {
       result_value =
-      line_refused a.s.now l.line _ (a.count - l.line) (sym (ap (line_says l.line) c.in-Refused.is) ∙ c.read_rule.ensures)
+          line_refused a.s.now l.line _ (a.count - l.line) (sym (ap (line_says l.line) c.in-Refused.is) ∙ c.read_rule.ensures)
           ∙ ap (remaining a.s.now l.line) (sym k) ∙ l.invariant.rest;
       stored = tt;
     }
