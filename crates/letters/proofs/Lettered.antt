@@ -1,12 +1,12 @@
 -- One letter more, and its number. Assumes nothing.
 use mathlib.Core.Bool.{Bool, true, false, cond}
-use mathlib.Core.List.{List, ◌∷◌, ◌++◌}
+use mathlib.Core.List.{List}
 use mathlib.Core.Logic.{◌≢◌}
 use mathlib.Core.Path.{◌≡◌, refl, sym, ap, ◌∙◌}
 use Prim.Native.Nat.{ℕ, ◌+◌, ◌-◌, ◌≤◌, ◌<◌}
 use native.Mathlib.Decide.{ℕ_discrete}
 use native.Mathlib.Omega.{arith}
-use lib.ListN.{get_or, set, length, length-append, length-set}
+use lib.ListN.{get_or, set, length-append, length-set}
 use lib.Seq.{get_or-set_same, get_or-set_other}
 use borrow.Author.Tests.{eq-eqb, ne_eqb}
 use Rattle.grammar.proofs.Fitting.{within_bounds}
@@ -14,7 +14,7 @@ use Rattle.notation.specs.Capitals.{number_in}
 use Rattle.notation.specs.Text.{among, rank, capital}
 use Rattle.notation.proofs.Found.{number_new}
 use Rattle.notation.proofs.Ranks.{rank_some}
-use Rattle.letters.specs.Numbering.{Numbers, Adds}
+use Rattle.letters.specs.Numbering.{Adds}
 
 pub index_in : (A : ℕ) → capital A ≡ true → (65 ≤ A) × (A - 65 < 26)
 index_in A e = let b = within_bounds 65 90 A e in (b.0, omega arith)

@@ -1,12 +1,9 @@
 -- What lines store depends on the numbers of their letters alone. Assumes nothing.
-use mathlib.Core.Bool.{true}
 use mathlib.Core.List.{List, [], ◌∷◌, ◌++◌}
 use mathlib.Core.Path.{◌≡◌, refl, ap, ◌∙◌}
 use Prim.Native.Nat.{ℕ}
-use lib.Dec.{eqb}
-use borrow.Author.Tests.{eq-eqb}
 use Rattle.notation.specs.Emit.{Rules, rules, Made, made, upon, put, joined, bracketed, item_rules, row_rules, choice_rules, ruled, line_rules}
-use Rattle.notation.specs.Text.{Item, letter, quoted, fails, inside, Row, empty, next, Choice, only, or, Line, line, among, item_letters, row_letters, choice_letters, letters_of}
+use Rattle.notation.specs.Text.{Item, letter, quoted, fails, inside, Row, empty, next, Choice, only, or, Line, line, item_letters, row_letters, choice_letters, letters_of}
 use Rattle.notation.proofs.Small.{AllKnown, known_left, known_right, among_first}
 
 module _ (number other : ℕ → ℕ) (E F : ℕ) where

@@ -2,7 +2,7 @@
 use mathlib.Core.Bool.{true, false}
 use mathlib.Core.List.{List, [], ◌∷◌, ◌++◌}
 use mathlib.Core.Option.{none, some}
-use mathlib.Core.Path.{◌≡◌, refl, sym, ap, ◌∙◌}
+use mathlib.Core.Path.{◌≡◌, sym, ap, ◌∙◌}
 use Prim.Native.Nat.{ℕ, ◌+◌, ◌≤◌, ◌<◌}
 use native.Mathlib.Decide.{dec_lt}
 use native.Mathlib.Numerals.{add-one}
@@ -12,7 +12,7 @@ use lib.Seq.{drop-cons}
 use borrow.Author.Tests.{ne_eqb}
 use Rattle.grammar.specs.Refusal.{refused}
 use Rattle.notation.specs.Scan.{Part, part, with_item, part_of, Open, opened, State, choosing, quoting, unquoting, before, faults, ends, step, chooses, finish, after, scan}
-use Rattle.notation.specs.Text.{Bracket, round, square, opener, closer, letter, quoted, fails, inside, empty, Choice, only, or, Line, line, capital}
+use Rattle.notation.specs.Text.{Bracket, round, square, opener, closer, letter, quoted, fails, inside, empty, Choice, Line, line, capital}
 use Rattle.notation.proofs.Read.{whole_part}
 use Rattle.pieces.specs.Piece.{begins_item, Moves, Refuses}
 use Rattle.pieces.proofs.Bytes.{other}

@@ -1,10 +1,10 @@
 -- Document 02, order 1: what the readers of items, rows and choices promise. Assumes nothing.
 use Rattle.std.specs.Prelude.{Bool, true, false, cond, ◌||◌, List, ◌≡◌, ℕ, ◌+◌, ◌≤◌, ◌<◌, eqb, length, drop, get_or}
-use Rattle.std.proofs.Math.Option.{Option, none, some}
+use Rattle.std.proofs.Math.Option.{Option, none}
 use Rattle.grammar.specs.Refusal.{refused}
 use Rattle.notation.specs.Emit.{Rules, Made, item_rules, row_rules, choice_rules}
 use Rattle.notation.specs.Scan.{Part, part, with_item, part_of, Open, choosing, scan}
-use Rattle.notation.specs.Text.{Item, Row, empty, Choice, only, or, Line, capital, item_cost, row_cost, choice_cost}
+use Rattle.notation.specs.Text.{Item, Row, empty, Choice, Line, capital, item_cost, row_cost, choice_cost}
 use Rattle.pieces.specs.Store.{capped, Stored, StoredMade, Few}
 use Rattle.pieces.specs.declared.Piece.{Piece}
 use Rattle.pieces.specs.declared.Read.{Read}

@@ -1,15 +1,14 @@
 -- What was read of a text is compiled. Assumes nothing.
 use mathlib.Core.Bool.{Bool, true, false, cond}
-use mathlib.Core.List.{List, [], ◌∷◌, ◌++◌}
-use mathlib.Core.Path.{◌≡◌, refl, sym, ap, ◌∙◌, subst}
+use mathlib.Core.List.{List, []}
+use mathlib.Core.Path.{◌≡◌, refl, ap, ◌∙◌, subst}
 use Prim.Native.Nat.{ℕ, ◌+◌, ◌-◌, ◌*◌, ◌≤◌, ◌<◌}
 use native.Mathlib.Decide.{dec_lt}
 use native.Mathlib.Omega.{arith}
-use lib.ListN.{length, get_or, drop, set, replicate, get_or-eq_default}
+use lib.ListN.{length, get_or, set, replicate, get_or-eq_default}
 use Rattle.grammar.specs.Printing.{printed, rules_from, rules_of}
-use Rattle.grammar.specs.Refusal.{Checked, refused, accepted}
-use Rattle.grammar.specs.Rule.{Rule}
-use Rattle.grammar.specs.Words.{words, rule_in}
+use Rattle.grammar.specs.Refusal.{refused, accepted}
+use Rattle.grammar.specs.Words.{rule_in}
 use Rattle.grammar.proofs.Fitting.{within_both}
 use Rattle.grammar.proofs.Listed.{rules_of_words}
 use Rattle.grammar.proofs.Words.{words_none}
@@ -18,8 +17,7 @@ use Rattle.notation.specs.Emit.{Rules, rules, line_rules, at_first, stored}
 use Rattle.notation.specs.Form.{Bytes}
 use Rattle.notation.specs.Judged.{judged}
 use Rattle.notation.specs.Scan.{lines_of}
-use Rattle.notation.specs.SheetOf.{SheetOf}
-use Rattle.notation.specs.Text.{Line, among, rank, firsts, letters, letters_of, number_of, capital, allowance, cost}
+use Rattle.notation.specs.Text.{Line, among, rank, firsts, letters, letters_of, number_of, allowance}
 use Rattle.notation.proofs.Capitals.{lines_capitals}
 use Rattle.notation.proofs.FewLetters.{capitals_all, capital_among, letters_few}
 use Rattle.notation.proofs.Found.{number_known}
@@ -29,7 +27,7 @@ use Rattle.notation.proofs.SameNumbers.{lines_same}
 use Rattle.notation.proofs.TextRefusals.{judged_refused, judged_over, judged_short, judged_accepted}
 use Rattle.notation.proofs.Texts.{accepted_exactly, text_letters, text_assembled}
 use Rattle.letters.specs.Numbering.{Numbers}
-use Rattle.pieces.specs.Store.{capped, number_held, Stored, Few}
+use Rattle.pieces.specs.Store.{capped, number_held, Stored}
 use Rattle.pieces.specs.declared.Piece.{Piece}
 use Rattle.pieces.specs.declared.Read.{Read}
 use Rattle.pieces.specs.declared.Read.TheVariants.{Found, Fault}

@@ -1,9 +1,9 @@
 -- The lines of a text, one after another. Assumes nothing.
 use mathlib.Core.List.{List, [], ◌∷◌, ◌++◌}
-use mathlib.Core.Path.{◌≡◌, refl, sym, ap, ◌∙◌, subst}
-use Prim.Native.Nat.{ℕ, zero, suc, ◌+◌, ◌-◌, ◌≤◌, ◌<◌}
+use mathlib.Core.Path.{◌≡◌, refl, ap, ◌∙◌, subst}
+use Prim.Native.Nat.{ℕ, suc, ◌+◌, ◌-◌, ◌≤◌, ◌<◌}
 use native.Mathlib.Omega.{arith}
-use lib.ListN.{length, get_or, drop, replicate, get_or-replicate, length-replicate}
+use lib.ListN.{length, drop, replicate, get_or-replicate, length-replicate}
 use Rattle.grammar.specs.Refusal.{refused, accepted}
 use Rattle.notation.specs.Emit.{Rules, line_rules}
 use Rattle.notation.specs.Scan.{before, finish, scan, lines_of}
@@ -16,7 +16,7 @@ use Rattle.pieces.specs.declared.Piece.{Piece}
 use Rattle.pieces.specs.declared.Read.{Read}
 use Rattle.pieces.specs.declared.Read.TheVariants.{Found, Fault}
 use Rattle.pieces.proofs.Scanning.{at_end_law}
-use Rattle.shorthand.specs.Lines.{Defines, LineReady, LineFinds, LineReads, LinesReady, LinesFound}
+use Rattle.shorthand.specs.Lines.{Defines, LineReady, LineFinds, LineReads, LinesFound}
 
 -- No letter has a line yet.
 defines_none : {lines : List ℕ} → lines ≡ replicate 26 0 → Defines [] lines

@@ -1,16 +1,15 @@
 -- A line of a text is found, or refused. Assumes nothing.
-use mathlib.Core.Bool.{true}
-use mathlib.Core.List.{List, [], ◌∷◌, ◌++◌}
+use mathlib.Core.List.{List, []}
 use mathlib.Core.Path.{◌≡◌, refl, ◌∙◌}
-use Prim.Native.Nat.{ℕ, ◌+◌, ◌-◌, ◌≤◌, ◌<◌}
+use Prim.Native.Nat.{ℕ, ◌+◌, ◌-◌}
 use native.Mathlib.Omega.{arith}
-use lib.ListN.{length, get_or, set, drop}
+use lib.ListN.{get_or, set, drop}
 use Rattle.grammar.specs.Refusal.{refused}
 use Rattle.notation.specs.Scan.{before, scan}
 use Rattle.notation.specs.Emit.{choice_rules}
 use Rattle.notation.specs.Text.{Line}
 use Rattle.pieces.specs.Piece.{Refuses, choices, Finds, EndsChoice, Ready}
-use Rattle.pieces.specs.Store.{Few, number_held}
+use Rattle.pieces.specs.Store.{number_held}
 use Rattle.pieces.specs.declared.Piece.{Piece}
 use Rattle.pieces.proofs.Scanning.{before_end, line_ends, line_not_ended}
 use Rattle.shorthand.specs.Lines.{Defines, Names, LineReady, LineFinds}

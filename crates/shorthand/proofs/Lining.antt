@@ -1,7 +1,6 @@
 -- One line of a text: its beginning, its end, its letter. Assumes nothing.
-use mathlib.Core.Bool.{Bool, true, false, cond, not, ◌&&◌, ◌||◌, true≢false, or_comm, or-false}
+use mathlib.Core.Bool.{Bool, true, false, ◌&&◌, ◌||◌, true≢false}
 use mathlib.Core.List.{List, [], ◌∷◌, ◌++◌}
-use mathlib.Core.Logic.{◌≢◌}
 use mathlib.Core.Option.{none}
 use mathlib.Core.Path.{◌≡◌, refl, sym, ap, ◌∙◌, subst}
 use Prim.Native.Nat.{ℕ, zero, suc, ◌+◌, ◌-◌, ◌≤◌, ◌<◌}
@@ -14,7 +13,7 @@ use borrow.Author.Tests.{eqb-true, eqb-false, eq-eqb, ne_eqb}
 use Rattle.grammar.specs.Refusal.{refused}
 use Rattle.grammar.specs.Rule.{Rule, call}
 use Rattle.grammar.specs.Words.{word, words_from, words}
-use Rattle.notation.specs.Emit.{Rules, rules, Made, made, with, ruled}
+use Rattle.notation.specs.Emit.{rules, Made, made, with, ruled}
 use Rattle.notation.specs.Scan.{part, before, named, choosing, defined, step, scan}
 use Rattle.notation.specs.Text.{empty, Choice, Line, line, capital}
 use Rattle.notation.proofs.Taken.{elsewhere}

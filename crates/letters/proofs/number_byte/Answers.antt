@@ -1,5 +1,4 @@
 use mathlib.Core.Path.{sym, ◌∙◌}
-use borrow.Author.Rules.{rules}
 use Rattle.letters.proofs.Progress.{passes_over, passes_quote, passes_letter, passes_other}
 use Rattle.letters.proofs.number_byte.Goals as goal
 

@@ -1,6 +1,4 @@
-use native.Mathlib.Omega.{arith}
 use Rattle.letters.proofs.Lettered.{index_in, adds_none, adds_one}
-use borrow.Author.Rules.{rules}
 use Rattle.letters.proofs.number_letter.Goals as goal
 
 pub overflow_sub-index : goal.overflow_sub-index

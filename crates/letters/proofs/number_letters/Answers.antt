@@ -1,7 +1,5 @@
-use Prim.Native.Nat.{◌-◌}
 use native.Mathlib.Omega.{arith}
-use lib.ListN.{length}
-use Rattle.letters.proofs.Progress.{Progress, few, begins, goes_on, ends}
+use Rattle.letters.proofs.Progress.{few, begins, goes_on, ends}
 use Rattle.letters.proofs.number_letters.Goals as goal
 
 pub loop-at-init : goal.loop-at-init

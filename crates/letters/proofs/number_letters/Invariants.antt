@@ -1,7 +1,6 @@
 use Prim.Native.Nat.{◌-◌}
-use native.Mathlib.Omega.{arith}
 use lib.ListN.{length}
-use Rattle.letters.proofs.Progress.{Progress, few, begins, goes_on, ends}
+use Rattle.letters.proofs.Progress.{Progress}
 use Rattle.letters.proofs.number_letters.Given as goal
 
 abbrev pub invariant-loop-at : goal.invariant-loop-at

@@ -9,7 +9,7 @@ use lib.ListN.{get_or}
 use Rattle.notation.specs.Scan.{part}
 use Rattle.notation.specs.Text.{Choice, empty, closer}
 use Rattle.pieces.specs.Piece.{closing, begins_item, rows, choices, Refuses, Finds}
-use Rattle.pieces.specs.Store.{number_held, moved}
+use Rattle.pieces.specs.Store.{number_held}
 use Rattle.pieces.specs.declared.Piece.{Piece}
 use Rattle.pieces.proofs.Bytes.{Opens, opens}
 use Rattle.pieces.proofs.Scanning.{too_deep}

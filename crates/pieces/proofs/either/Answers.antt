@@ -1,4 +1,3 @@
-use borrow.Author.Rules.{rules}
 use Rattle.pieces.proofs.either.Goals as goal
 
 pub returns : goal.returns

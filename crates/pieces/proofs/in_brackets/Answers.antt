@@ -3,7 +3,6 @@ use Rattle.grammar.specs.Rule.{call}
 use native.Mathlib.Omega.{arith}
 use mathlib.Core.Path.{sym, ◌∙◌}
 use Rattle.pieces.proofs.Storing.{in_round, in_square}
-use borrow.Author.Rules.{rules}
 use Rattle.pieces.proofs.in_brackets.Goals as goal
 
 pub returns-then-closing-eq41 : goal.returns-then-closing-eq41

@@ -1,5 +1,4 @@
 use Rattle.pieces.proofs.Storing.{joined_alone, joined_put}
-use borrow.Author.Rules.{rules}
 use Rattle.pieces.proofs.join.Goals as goal
 
 pub returns-then-row-always : goal.returns-then-row-always

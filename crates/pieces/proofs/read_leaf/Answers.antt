@@ -11,7 +11,6 @@ use Rattle.pieces.specs.Piece.{LeafReady}
 use Rattle.pieces.specs.declared.Piece.{Piece}
 use Rattle.pieces.proofs.Bytes.{a_capital}
 use Rattle.pieces.proofs.Finding.{item_inside, Item-found, finds_letter, finds_percent}
-use borrow.Author.Rules.{rules}
 use Rattle.pieces.proofs.read_leaf.Goals as goal
 
 -- With neither a quote nor a percent sign, it is a capital.

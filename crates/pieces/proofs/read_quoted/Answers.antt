@@ -8,7 +8,6 @@ use Rattle.pieces.specs.Store.{Few, Makes}
 use Rattle.pieces.specs.declared.Piece.{Piece}
 use Rattle.pieces.proofs.Scanning.{before_end, quote_short, quote_open}
 use Rattle.pieces.proofs.Finding.{moved_few, finds_quoted}
-use borrow.Author.Rules.{rules}
 use Rattle.pieces.proofs.read_quoted.Goals as goal
 
 pub overflow_sub-s : goal.overflow_sub-s

@@ -1,7 +1,6 @@
 use mathlib.Core.Path.{refl}
 use native.Mathlib.Omega.{arith}
 use Rattle.pieces.proofs.Storing.{put_room, put_full}
-use borrow.Author.Rules.{rules}
 use Rattle.pieces.proofs.with_rule.Goals as goal
 
 pub returns-then-last-gt255 : goal.returns-then-last-gt255

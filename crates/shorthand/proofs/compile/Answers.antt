@@ -1,6 +1,5 @@
 use native.Mathlib.Omega.{arith}
 use Rattle.shorthand.proofs.Compiling.{few, lines_ready, end_ready, compiled, compile_refused, lines_found_law, lines_faulted}
-use borrow.Author.Rules.{rules}
 use Rattle.shorthand.proofs.compile.Goals as goal
 
 pub bounds-rules-count : goal.bounds-rules-count

@@ -1,6 +1,5 @@
 use native.Mathlib.Omega.{arith}
 use Rattle.shorthand.proofs.Lining.{names_one, names_none}
-use borrow.Author.Rules.{rules}
 use Rattle.shorthand.proofs.name_choice.Goals as goal
 
 pub returns-then-number-ne0 : goal.returns-then-number-ne0

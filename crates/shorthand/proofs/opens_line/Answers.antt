@@ -1,7 +1,5 @@
-use mathlib.Core.Path.{sym, ◌∙◌}
 use borrow.Author.Tests.{eq-eqb, ne_eqb, lt-leb, le-leb}
 use Rattle.shorthand.specs.Lines.{opens_line}
-use borrow.Author.Rules.{rules}
 use Rattle.shorthand.proofs.opens_line.Goals as goal
 
 pub returns-then-letter-lt65 : goal.returns-then-letter-lt65

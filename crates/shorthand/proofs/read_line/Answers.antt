@@ -4,7 +4,6 @@ use native.Mathlib.Omega.{arith}
 use Rattle.pieces.proofs.Finding.{taken, faulted}
 use Rattle.shorthand.proofs.Lining.{opens_parts, letter_index, not_opened}
 use Rattle.shorthand.proofs.LineFound.{choice_ready, choice_refused, end_refused, line_is}
-use borrow.Author.Rules.{rules}
 use Rattle.shorthand.proofs.read_line.Goals as goal
 
 pub returns-then-not-opens_line : goal.returns-then-not-opens_line

@@ -1,10 +1,6 @@
 use mathlib.Core.Path.{refl}
-use Prim.Native.Nat.{◌-◌}
 use native.Mathlib.Omega.{arith}
-use lib.ListN.{length}
-use borrow.Author.Rules.{rules}
-use Rattle.pieces.specs.Store.{number_held}
-use Rattle.shorthand.proofs.Going.{Going, begins, line_ready, goes_on, faults, ends, empty_text, line_found_law, line_faulted}
+use Rattle.shorthand.proofs.Going.{begins, line_ready, goes_on, faults, ends, empty_text, line_found_law, line_faulted}
 use Rattle.shorthand.proofs.read_lines.Goals as goal
 
 pub returns-then-s-eq0 : goal.returns-then-s-eq0

@@ -1,6 +1,5 @@
 use mathlib.Core.Path.{refl}
 use native.Mathlib.Omega.{arith}
-use borrow.Author.Rules.{rules}
 use Rattle.shorthand.proofs.write_rules.Goals as goal
 
 pub returns-then-out-text : goal.returns-then-out-text
