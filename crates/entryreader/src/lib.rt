@@ -40,8 +40,7 @@ fn report_sheet(sheet: Sheet, out: &mut [u32; 4]) -> u32
 
 // Reads a sheet: 0, with 0, the count of variables, the start variable and the endmarker in the answer, and the rules' words; or 100 plus the number
 // of a refusal, with its number and line in the answer, and the words unchanged.
-#[unsafe(no_mangle)]
-pub extern "C" fn entryreader_sheet(sheet: &[u8], answer: &mut [u32; 4], words: &mut Rules) -> u32
+pub fn entryreader_sheet(sheet: &[u8], answer: &mut [u32; 4], words: &mut Rules) -> u32
     ensures { SheetNumbers sheet.now answer.new words.old words.new result }
 {
     let found = read_sheet(sheet, words);
@@ -64,8 +63,7 @@ fn code(judgement: Judgement) -> u32
 }
 
 // The verdict on an input, over a table and a work slice of the call's own: its code, or 100 plus the number of a refusal.
-#[unsafe(no_mangle)]
-pub extern "C" fn entryreader_verdict(sheet: &[u8], input: &[u8]) -> u32
+pub fn entryreader_verdict(sheet: &[u8], input: &[u8]) -> u32
     ensures { VerdictCode sheet.now input.now result }
 {
     let mut table = [0u32; 2048];
@@ -75,8 +73,7 @@ pub extern "C" fn entryreader_verdict(sheet: &[u8], input: &[u8]) -> u32
 
 // The verdict on an input, over a lent table and a lent work slice: always 0, with the four numbers of the first line of `readentry` in the answer; a
 // refusal too, as 9, its number, its line and 0, with table and work slice unchanged.
-#[unsafe(no_mangle)]
-pub extern "C" fn entryreader_judge(
+pub fn entryreader_judge(
     sheet: &[u8],
     input: &[u8],
     table: &mut [u32],
@@ -92,8 +89,7 @@ pub extern "C" fn entryreader_judge(
 
 // A question about a variable at a position of the input, over a lent table and a lent work slice: 0, with the cell's code, the named
 // variable, the named position and the count of decided cells in the answer; or 100 plus the number of a refusal, with nothing changed.
-#[unsafe(no_mangle)]
-pub extern "C" fn entryreader_question(
+pub fn entryreader_question(
     sheet: &[u8],
     input: &[u8],
     variable: u32,
@@ -110,8 +106,7 @@ pub extern "C" fn entryreader_question(
 
 // A question about an input of which the byte at c was corrected, over a table that was kept of the old input: as the
 // question, with the count of newly decided cells.
-#[unsafe(no_mangle)]
-pub extern "C" fn entryreader_correct(
+pub fn entryreader_correct(
     sheet: &[u8],
     old: &[u8],
     input: &[u8],
@@ -130,8 +125,7 @@ pub extern "C" fn entryreader_correct(
 
 // A further question about the same input, over a table that was kept of it and of which nothing is blanked: as the question, with the count of newly
 // decided cells.
-#[unsafe(no_mangle)]
-pub extern "C" fn entryreader_further(
+pub fn entryreader_further(
     sheet: &[u8],
     input: &[u8],
     variable: u32,
@@ -148,8 +142,7 @@ pub extern "C" fn entryreader_further(
 
 // The question, with its reading in a lent output: 0, with the question's four numbers and the count of lines in the answer; or 100 plus the number of
 // a refusal, with nothing changed.
-#[unsafe(no_mangle)]
-pub extern "C" fn entryreader_write(
+pub fn entryreader_write(
     sheet: &[u8],
     input: &[u8],
     variable: u32,
@@ -166,8 +159,7 @@ pub extern "C" fn entryreader_write(
 
 // The checker on a reading for a variable at a position of the input: 0, with the code of the outcome that it claims (5 + q for success ending at q,
 // 1 failure) and the end in its last line in the answer; or 100 plus the number of a refusal, with nothing changed.
-#[unsafe(no_mangle)]
-pub extern "C" fn entryreader_check(
+pub fn entryreader_check(
     sheet: &[u8],
     input: &[u8],
     variable: u32,
@@ -197,8 +189,7 @@ fn report_length(compiled: Compiled, out: &mut [u32; 1]) -> u32
 
 // The rule sheet of a text of the shorthand, at the front of the output: 0, with the sheet's length in the answer; or 100 plus the number of a
 // refusal, with nothing changed.
-#[unsafe(no_mangle)]
-pub extern "C" fn entryreader_shorthand(text: &[u8], out: &mut [u8], answer: &mut [u32; 1]) -> u32
+pub fn entryreader_shorthand(text: &[u8], out: &mut [u8], answer: &mut [u32; 1]) -> u32
     ensures { ShorthandNumbers text.now out.old out.new answer.old answer.new result }
 {
     let compiled = shorthand::compile(text, out);
@@ -226,8 +217,7 @@ fn report_opening(found: Prefix, out: &mut [u32; 2]) -> u32
 
 // The least opening that loops: 0, with 1 and its number of bytes in the answer, or 0 and 0 for a verdict that does not loop; or 100 plus the number of a
 // refusal, with nothing changed.
-#[unsafe(no_mangle)]
-pub extern "C" fn entryreader_opening(
+pub fn entryreader_opening(
     sheet: &[u8],
     input: &[u8],
     table: &mut [u32],
@@ -252,13 +242,7 @@ fn report_stored(stored: Stored) -> u32
 }
 
 // Stores a table of so many variables, of an input of so many bytes, by position: 0, or 100 plus the number of a refusal, with nothing changed.
-#[unsafe(no_mangle)]
-pub extern "C" fn entryreader_store(
-    variables: u32,
-    length: u32,
-    table: &[u32],
-    stored: &mut [u32],
-) -> u32
+pub fn entryreader_store(variables: u32, length: u32, table: &[u32], stored: &mut [u32]) -> u32
     ensures { StoreNumbers variables length table.now stored.old stored.new result }
 {
     let found = archive::store(variables, length, table, stored);
@@ -266,13 +250,7 @@ pub extern "C" fn entryreader_store(
 }
 
 // Restores a table that was stored by position: 0, or 100 plus the number of a refusal, with nothing changed.
-#[unsafe(no_mangle)]
-pub extern "C" fn entryreader_restore(
-    variables: u32,
-    length: u32,
-    stored: &[u32],
-    table: &mut [u32],
-) -> u32
+pub fn entryreader_restore(variables: u32, length: u32, stored: &[u32], table: &mut [u32]) -> u32
     ensures { RestoreNumbers variables length stored.now table.old table.new result }
 {
     let found = archive::restore(variables, length, stored, table);

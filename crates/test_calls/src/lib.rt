@@ -40,8 +40,7 @@ fn report_run(ending: Ending, out: &mut [u32; 3]) -> u32
 
 // The machine's run on a variable at a position of the input, over lent frames. The answer: the outcome's code (5 + q for success ending at q,
 // 1 failure, 3 missing, 10,000 spent, 10,001 no frame), the end on success or else 0, the moves.
-#[unsafe(no_mangle)]
-pub extern "C" fn test_run(
+pub fn test_run(
     sheet: &[u8],
     input: &[u8],
     variable: u32,
@@ -58,8 +57,7 @@ pub extern "C" fn test_run(
 
 // The writer's question about a variable at a position of the input, over a lent table, a lent work slice and a lent output. The answer: the
 // cell's code, the named variable, the named position, the count of decided cells, the count of lines.
-#[unsafe(no_mangle)]
-pub extern "C" fn test_write(
+pub fn test_write(
     sheet: &[u8],
     input: &[u8],
     variable: u32,
@@ -76,8 +74,7 @@ pub extern "C" fn test_write(
 
 // The checker on a reading for a variable at a position of the input. The answer: the code of the outcome that it claims (5 + q for success ending
 // at q, 1 failure), and the end in its last line.
-#[unsafe(no_mangle)]
-pub extern "C" fn test_check(
+pub fn test_check(
     sheet: &[u8],
     input: &[u8],
     variable: u32,
