@@ -1,5 +1,6 @@
-//! Makes the static library of the crate `entryreader` with `rt`, which proves it first, and links a copy of it; that of `test_calls` too where the
-//! feature `test-calls` asks for it. Libraries made before are taken from the folder that the variable `ENTRYREADER_LIBRARIES` names.
+//! Makes the static library of the crate `entryreader_c` with `rt`, which proves it first, and links a copy of it under the name `libentryreader.a`; that
+//! of `test_calls_c`, as `libtest_calls.a`, too where the feature `test-calls` asks for it. Libraries made before are taken, under these names, from the
+//! folder that the variable `ENTRYREADER_LIBRARIES` names.
 use std::env;
 use std::fs::{self, File, OpenOptions};
 use std::io::{self, Write};
@@ -12,8 +13,8 @@ const LIBRARIES: &str = "ENTRYREADER_LIBRARIES";
 
 fn main() {
     println!("cargo::rerun-if-env-changed={LIBRARIES}");
-    println!("cargo::rerun-if-changed=../crates");
     println!("cargo::rerun-if-changed=../crates.txt");
+    watch_crates();
     // Cargo ends with the sentence, and shows nothing else of this script.
     if let Err(sentence) = link() {
         println!("cargo::error={}", sentence.replace('\n', " "));
@@ -58,6 +59,18 @@ fn variable(name: &str) -> String {
     env::var(name).unwrap_or_default()
 }
 
+/// Has cargo look at the files of each crate, but not at `out/`, where `rt` writes.
+fn watch_crates() {
+    for folder in fs::read_dir("../crates").into_iter().flatten().flatten() {
+        for part in ["src", "specs", "proofs"] {
+            let part = folder.path().join(part);
+            if part.is_dir() {
+                println!("cargo::rerun-if-changed={}", part.display());
+            }
+        }
+    }
+}
+
 /// Makes the libraries in the repository around this folder. One at a time: a second cargo waits at the lock, and then finds the proofs done.
 fn make_all(names: &[&str], out: &Path) -> Result<(), String> {
     let root = PathBuf::from(variable("CARGO_MANIFEST_DIR")).join("..");
@@ -72,52 +85,43 @@ fn make_all(names: &[&str], out: &Path) -> Result<(), String> {
         "proving and compiling {} with `rt`: about four minutes the first time, seconds later",
         names.join(" and ")
     ));
-    for name in names {
-        make(&root, out, name)?;
-        copy(&root.join("target/staticlib"), out, name)?;
-    }
-    Ok(())
+    names.iter().try_for_each(|name| make(&root, out, name))
 }
 
-/// Proves a crate and makes its library.
+/// Proves the crate of exports over a library, and makes its static library.
 fn make(root: &Path, out: &Path, name: &str) -> Result<(), String> {
-    let made = Command::new("rt")
-        .args(["staticlib", name])
-        .current_dir(root)
-        .output();
+    let folder = root.join(format!("crates/{name}_c"));
+    let made = Command::new("rt").arg("lib").current_dir(&folder).output();
     let made = made.map_err(|error| match error.kind() {
-        io::ErrorKind::NotFound => format!(
+        io::ErrorKind::NotFound if folder.is_dir() => format!(
             "`rt`, the Rattle toolchain, is not on the PATH: install it, or let {LIBRARIES} name a folder with lib{name}.a"
         ),
-        _ => format!("`rt staticlib {name}` cannot be run: {error}"),
+        _ => format!("`rt lib` cannot be run in {}: {error}", folder.display()),
     })?;
     if made.status.success() {
-        return Ok(());
+        return copy(&folder.join(format!("out/lib{name}_c.a")), out, name);
     }
     let log = out.join(format!("{name}.log"));
     let written = fs::write(&log, [made.stdout, made.stderr].concat());
     written.map_err(|error| format!("{}: {error}", log.display()))?;
     Err(format!(
-        "`rt staticlib {name}` failed: {} has what it printed",
+        "`rt lib` failed in {}: {} has what it printed",
+        folder.display(),
         log.display()
     ))
 }
 
 /// Takes a library that was made before, and again when it changes.
 fn take(folder: &Path, out: &Path, name: &str) -> Result<(), String> {
-    println!(
-        "cargo::rerun-if-changed={}",
-        folder.join(format!("lib{name}.a")).display()
-    );
-    copy(folder, out, name)
+    let library = folder.join(format!("lib{name}.a"));
+    println!("cargo::rerun-if-changed={}", library.display());
+    copy(&library, out, name)
 }
 
 /// Copies a library to where it is linked from.
-fn copy(folder: &Path, out: &Path, name: &str) -> Result<(), String> {
-    let library = format!("lib{name}.a");
-    let source = folder.join(&library);
-    fs::copy(&source, out.join(&library))
-        .map_err(|error| format!("{}: {error}", source.display()))?;
+fn copy(library: &Path, out: &Path, name: &str) -> Result<(), String> {
+    fs::copy(library, out.join(format!("lib{name}.a")))
+        .map_err(|error| format!("{}: {error}", library.display()))?;
     Ok(())
 }
 
