@@ -509,7 +509,7 @@ fn types_in_header(parameter: &str) -> Vec<String> {
 /// Header, package and source declare the same calls with the same parameters, and all of them return 32 bits.
 #[test]
 fn declarations() {
-    let source = include_str!("../../crates/entryreader/src/lib.rt");
+    let source = include_str!("../../crates/entryreader_c/src/lib.rt");
     let package = include_str!("../src/calls.rs");
     let header = include_str!("../include/entryreader.h");
     let in_source = declared(source, "pub extern \"C\" fn ", types_in_source);
