@@ -1,5 +1,5 @@
 //! The C header: a C program that is compiled against it puts the marked entries through every exported call, and prints what the calls of this package
-//! give; and the declarations in the header, in the package and in the source are the same.
+//! give; the declarations in the header, in the package and in the source are the same; and each export promises what the function that it calls does.
 #[allow(dead_code)] // Other tests ask the other cases.
 mod marked_cases;
 
@@ -528,4 +528,35 @@ fn declarations() {
     assert_eq!(in_source["entryreader_sheet"].len(), 4);
     assert_eq!(externs.matches(") -> u32;").count(), in_source.len());
     assert_eq!(header.matches(");\n").count(), in_source.len());
+}
+
+/// The parameters and clauses of each function that begins with `before`, without blanks.
+fn said(text: &str, before: &str) -> BTreeMap<String, String> {
+    let mut found = BTreeMap::new();
+    for part in text.split(before).skip(1) {
+        let (name, rest) = part.split_once('(').expect("parameters follow");
+        let said = rest.split_once("\n{\n").expect("a body follows").0;
+        let said: String = said.split_whitespace().collect();
+        found.insert(name.to_string(), said.replace(",)", ")"));
+    }
+    found
+}
+
+/// Each export promises what the library's function of its name does.
+#[test]
+fn exported_promises() {
+    for (library, exports) in [
+        (
+            include_str!("../../crates/entryreader/src/lib.rt"),
+            include_str!("../../crates/entryreader_c/src/lib.rt"),
+        ),
+        (
+            include_str!("../../crates/test_calls/src/lib.rt"),
+            include_str!("../../crates/test_calls_c/src/lib.rt"),
+        ),
+    ] {
+        let exported = said(exports, "\npub extern \"C\" fn ");
+        assert_eq!(exported, said(library, "\npub fn "));
+        assert!(exported.values().all(|said| said.contains("->u32ensures{")));
+    }
 }
