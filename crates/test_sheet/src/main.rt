@@ -3,67 +3,85 @@
 // and the endmarker byte.
 #![tactic(auto)]
 
+ghost use Rattle.std.specs.Counts.{IsPrefixLen};
+
 use columns::{Cursor, Field};
 use grammar::sheet::Sheet;
-use libc::{STDIN_FILENO, STDOUT_FILENO};
+use std::io;
+use std::io::Read;
 
-fn print_field(x: u32) {
-    let mut field = [0u8; 8];
-    rows::write_field(&mut field, x);
-    io::write_all(STDOUT_FILENO, &field);
+// Reads until the buffer is full, the input ends or a read fails; the count of bytes that were read.
+fn read_full<R: Read>(reader: &mut R, buffer: &mut [u8]) -> usize
+    ensures { IsPrefixLen result buffer.new }
+{
+    let mut done = 0;
+    while done < buffer.len() {
+        match reader.read(&mut buffer[done..]) {
+            Ok(0) | Err(_) => break,
+            Ok(n) => done += n,
+        }
+    }
+    done
 }
 
-fn print_answer(s: &[u8]) {
+fn print_field(rt: &impl Print, x: u32) -> io::Result<()> {
+    let mut field = [0u8; 8];
+    rows::write_field(&mut field, x);
+    rt.write_all(&field)
+}
+
+fn print_answer(rt: &impl Print, s: &[u8]) -> io::Result<()> {
     let mut rules = [0u32; 256];
     match grammar::sheet::read_sheet(s, &mut rules) {
         Sheet::Refused(number, line) => {
-            print_field(number);
-            print_field(line);
+            print_field(rt, number)?;
+            print_field(rt, line)?;
         }
         Sheet::Read(grammar) => {
-            print_field(0);
-            print_field(grammar.variables);
-            print_field(grammar.start);
-            print_field(grammar.endmarker);
+            print_field(rt, 0)?;
+            print_field(rt, grammar.variables)?;
+            print_field(rt, grammar.start)?;
+            print_field(rt, grammar.endmarker)?;
         }
     }
-    io::write_all(STDOUT_FILENO, &[b'\n']);
+    rt.write_all(b"\n")
 }
 
 // The case at a position; the position behind it, or the end where no case stands here.
-fn answer_at(text: &[u8], at: usize) -> usize {
+fn answer_at(rt: &impl Print, text: &[u8], at: usize) -> io::Result<usize> {
     let end = text.len();
     let start = Cursor { at };
     let Field::Number(length, _) = start.eight(text) else {
-        return end;
+        return Ok(end);
     };
     if end < 9 {
-        return end;
+        return Ok(end);
     }
     if end - 9 < at {
-        return end;
+        return Ok(end);
     }
     let first = at + 9;
     if end - first < length as usize {
-        return end;
+        return Ok(end);
     }
     let next = first + length as usize;
-    print_answer(&text[first..next]);
-    next
+    print_answer(rt, &text[first..next])?;
+    Ok(next)
 }
 
 // As many cases as there are, up to a thousand.
-fn answer_all(text: &[u8]) {
+fn answer_all(rt: &impl Print, text: &[u8]) -> io::Result<()> {
     let mut at: usize = 0;
     let mut turns: u32 = 1000;
     while turns > 0 {
-        at = answer_at(text, at);
+        at = answer_at(rt, text, at)?;
         turns -= 1;
     }
+    Ok(())
 }
 
-fn main() {
-    let mut buffer = io::large_buffer();
-    let n = io::read_full(STDIN_FILENO, &mut buffer);
-    answer_all(&buffer[..n]);
+fn main(rt: HostRuntime) -> io::Result<()> {
+    let mut buffer = [0u8; 65536];
+    let n = read_full(&mut rt.reader(), &mut buffer);
+    answer_all(&rt, &buffer[..n])
 }
