@@ -1,20 +1,34 @@
 // The program `readentry`: the sheet from the file sheet.txt, the input from standard input, the output to standard output.
-ghost use Rattle.io.specs.Counts.{IsPrefixLen};
+ghost use Rattle.std.specs.Counts.{IsPrefixLen};
 
 use crate::write_output;
-use libc::{STDIN_FILENO, STDOUT_FILENO};
+use std::fs;
+use std::io;
+use std::io::Read;
+use std::rt::Files;
 
-// The bytes of the sheet file, as far as the buffer goes; none where the file cannot be opened.
-fn load_sheet(buffer: &mut [u8]) -> usize
+// Reads until the buffer is full, the input ends or a read fails; the count of bytes that were read.
+pub fn read_full<R: Read>(reader: &mut R, buffer: &mut [u8]) -> usize
     ensures { IsPrefixLen result buffer.new }
 {
-    let file = os::open_read(b"sheet.txt");
-    if file < 0 {
-        return 0;
+    let mut done = 0;
+    while done < buffer.len() {
+        match reader.read(&mut buffer[done..]) {
+            Ok(0) | Err(_) => break,
+            Ok(n) => done += n,
+        }
     }
-    let count = io::read_full(file, buffer);
-    libc::close(file);
-    count
+    done
+}
+
+// The bytes of the sheet file, as far as the buffer goes; none where the file cannot be opened.
+fn load_sheet(rt: &impl Files, buffer: &mut [u8]) -> usize
+    ensures { IsPrefixLen result buffer.new }
+{
+    match fs::open(rt, "sheet.txt") {
+        Ok(mut file) => read_full(&mut file, buffer),
+        Err(_) => 0,
+    }
 }
 
 // The output, with its length in the form that a part of the buffer asks for.
@@ -25,17 +39,17 @@ fn fill(sheet: &[u8], input: &[u8], out: &mut [u8]) -> usize
 }
 
 // Prints the output for a sheet and an input.
-pub fn print(sheet: &[u8], input: &[u8]) {
+pub fn print(rt: &impl Print, sheet: &[u8], input: &[u8]) -> io::Result<()> {
     let mut out = [0u8; 50209];
     let length = fill(sheet, input, &mut out);
-    io::write_all(STDOUT_FILENO, &out[..length]);
+    rt.write_all(&out[..length])
 }
 
 // A sheet has at most 6,682 bytes and an input at most 4,096: both buffers hold more, so that what is longer is refused.
-pub fn run() {
+pub fn run(rt: &(impl Files + Input + Print)) -> io::Result<()> {
     let mut sheet = [0u8; 6708];
-    let sheet_length = load_sheet(&mut sheet);
+    let sheet_length = load_sheet(rt, &mut sheet);
     let mut input = [0u8; 4097];
-    let input_length = io::read_full(STDIN_FILENO, &mut input);
-    print(&sheet[..sheet_length], &input[..input_length]);
+    let input_length = read_full(&mut rt.reader(), &mut input);
+    print(rt, &sheet[..sheet_length], &input[..input_length])
 }

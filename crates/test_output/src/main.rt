@@ -3,57 +3,71 @@
 #![tactic(auto)]
 
 use columns::{Cursor, Field};
-use libc::STDIN_FILENO;
+use output::program::{print, read_full};
+use std::io;
 
 // The case whose sheet begins at a position; the position behind it, or the end where it is not there whole.
-fn answer_from(text: &[u8], at: usize, sheet_length: usize, input_length: usize) -> usize {
+fn answer_from(
+    rt: &impl Print,
+    text: &[u8],
+    at: usize,
+    sheet_length: usize,
+    input_length: usize,
+) -> io::Result<usize> {
     let end = text.len();
     if end < at {
-        return end;
+        return Ok(end);
     }
     if end - at < sheet_length {
-        return end;
+        return Ok(end);
     }
     let middle = at + sheet_length;
     if end - middle < input_length {
-        return end;
+        return Ok(end);
     }
     let next = middle + input_length;
-    output::program::print(&text[at..middle], &text[middle..next]);
-    next
+    print(rt, &text[at..middle], &text[middle..next])?;
+    Ok(next)
 }
 
 // The case at a position; the position behind it, or the end where no case stands here.
-fn answer_at(text: &[u8], at: usize) -> usize {
+fn answer_at(rt: &impl Print, text: &[u8], at: usize) -> io::Result<usize> {
     let end = text.len();
     let start = Cursor { at };
     let Field::Number(sheet_length, middle) = start.eight(text) else {
-        return end;
+        return Ok(end);
     };
     let Field::Number(input_length, _) = middle.eight(text) else {
-        return end;
+        return Ok(end);
     };
     if end < 17 {
-        return end;
+        return Ok(end);
     }
     if end - 17 < at {
-        return end;
+        return Ok(end);
     }
-    answer_from(text, at + 17, sheet_length as usize, input_length as usize)
+    answer_from(
+        rt,
+        text,
+        at + 17,
+        sheet_length as usize,
+        input_length as usize,
+    )
 }
 
 // As many cases as there are, up to a hundred.
-fn answer_all(text: &[u8]) {
+fn answer_all(rt: &impl Print, text: &[u8]) -> io::Result<()> {
     let mut at: usize = 0;
     let mut turns: u32 = 100;
     while turns > 0 {
-        at = answer_at(text, at);
+        at = answer_at(rt, text, at)?;
         turns -= 1;
     }
+    Ok(())
 }
 
-fn main() {
-    let mut buffer = io::large_buffer();
-    let n = io::read_full(STDIN_FILENO, &mut buffer);
-    answer_all(&buffer[..n]);
+fn main(rt: HostRuntime) -> io::Result<()> {
+    let mut buffer = [0u8; 65536];
+    let n = read_full(&mut rt.reader(), &mut buffer);
+    answer_all(&rt, &buffer[..n])
 }

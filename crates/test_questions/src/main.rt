@@ -53,16 +53,18 @@
 #![tactic(auto)]
 
 ghost use Rattle.std.specs.Prelude.{◌<◌, ◌≤◌};
-ghost use Rattle.io.specs.Counts.{IsPrefixLen};
+ghost use Rattle.std.specs.Counts.{IsPrefixLen};
 
 use archive::Stored;
 use backtrack::Ending;
 use checker::Claim;
 use columns::{Cursor, Field};
 use finish::Answer;
-use libc::STDOUT_FILENO;
 use opening::Prefix;
 use rows::write_field;
+use std::io::Read;
+use std::rt::Files;
+use std::{fs, io};
 
 // What stands in a table and in an output before a call.
 const UNTOUCHED_NUMBER: u32 = 77777;
@@ -73,7 +75,7 @@ const UNTOUCHED_BYTE: u8 = 42;
 const MODULUS: u64 = 9999991;
 
 // What is asked of a sheet and an entry.
-#[derive(Drop)]
+#[derive(Clone, Copy)]
 struct Request {
     variable: u32,
     position: u32,
@@ -86,25 +88,25 @@ struct Request {
 #[derive(Drop)]
 struct Four(u32, u32, u32, u32);
 
-fn print_field(x: u32) {
+fn print_field(rt: &impl Print, x: u32) -> io::Result<()> {
     let mut field = [0u8; 8];
     write_field(&mut field, x);
-    io::write_all(STDOUT_FILENO, &field);
+    rt.write_all(&field)
 }
 
-fn print_answer(number: u32, task: u32, four: Four, sum: u32) {
-    print_field(number);
-    print_field(task);
-    print_field(four.0);
-    print_field(four.1);
-    print_field(four.2);
-    print_field(four.3);
-    print_field(sum);
-    io::write_all(STDOUT_FILENO, &[b'\n']);
+fn print_answer(rt: &impl Print, number: u32, task: u32, four: Four, sum: u32) -> io::Result<()> {
+    print_field(rt, number)?;
+    print_field(rt, task)?;
+    print_field(rt, four.0)?;
+    print_field(rt, four.1)?;
+    print_field(rt, four.2)?;
+    print_field(rt, four.3)?;
+    print_field(rt, sum)?;
+    rt.write_all(b"\n")
 }
 
-fn print_fault(number: u32) {
-    print_answer(number, 4, Four(0, 0, 0, 0), 0);
+fn print_fault(rt: &impl Print, number: u32) -> io::Result<()> {
+    print_answer(rt, number, 4, Four(0, 0, 0, 0), 0)
 }
 
 // The sum of one more number: each number counts by its place.
@@ -211,109 +213,158 @@ fn low_digits(x: usize) -> u32 {
 }
 
 // What a call of this kind answered about a pair, and the table that it left.
-fn print_outcome(number: u32, kind: u32, answer: Answer, table: &[u32]) {
+fn print_outcome(
+    rt: &impl Print,
+    number: u32,
+    kind: u32,
+    answer: Answer,
+    table: &[u32],
+) -> io::Result<()> {
     print_answer(
+        rt,
         number,
         kind,
         numbers_of_answer(answer),
         sum_of_numbers(table),
-    );
+    )
 }
 
 // Tasks 0 and 4, with the lent slices.
 fn question(
+    rt: &impl Print,
     number: u32,
     sheet: &[u8],
     entry: &[u8],
     r: Request,
     table: &mut [u32],
     work: &mut [u32],
-) {
+) -> io::Result<()> {
     fill_numbers(table, UNTOUCHED_NUMBER);
     let answer = memo::question(sheet, entry, r.variable, r.position, table, work);
-    print_outcome(number, 0, answer, table);
+    print_outcome(rt, number, 0, answer, table)
 }
 
 // Task 7, with the lent slices.
-fn find_opening(number: u32, sheet: &[u8], entry: &[u8], table: &mut [u32], work: &mut [u32]) {
+fn find_opening(
+    rt: &impl Print,
+    number: u32,
+    sheet: &[u8],
+    entry: &[u8],
+    table: &mut [u32],
+    work: &mut [u32],
+) -> io::Result<()> {
     fill_numbers(table, UNTOUCHED_NUMBER);
     let prefix = opening::opening(sheet, entry, table, work);
     let four = numbers_of_prefix(prefix, sum_of_numbers(work));
-    print_answer(number, 8, four, sum_of_numbers(table));
+    print_answer(rt, number, 8, four, sum_of_numbers(table))
 }
 
 // Task 8, with the lent slices.
 fn further(
+    rt: &impl Print,
     number: u32,
     sheet: &[u8],
     entry: &[u8],
     r: Request,
     table: &mut [u32],
     work: &mut [u32],
-) {
+) -> io::Result<()> {
     let answer = correction::further(sheet, entry, r.variable, r.position, table, work);
-    print_outcome(number, 9, answer, table);
+    print_outcome(rt, number, 9, answer, table)
 }
 
 // Task 9, with the lent table.
-fn blank(number: u32, table: &mut [u32]) {
+fn blank(rt: &impl Print, number: u32, table: &mut [u32]) -> io::Result<()> {
     fill_numbers(table, 0);
-    print_answer(number, 10, Four(0, 0, 0, 0), sum_of_numbers(table));
+    print_answer(rt, number, 10, Four(0, 0, 0, 0), sum_of_numbers(table))
 }
 
 // Tasks 0, 4, 7, 8 and 9, with the lent slices.
-fn ask(number: u32, sheet: &[u8], entry: &[u8], r: Request, table: &mut [u32], work: &mut [u32]) {
+fn ask(
+    rt: &impl Print,
+    number: u32,
+    sheet: &[u8],
+    entry: &[u8],
+    r: Request,
+    table: &mut [u32],
+    work: &mut [u32],
+) -> io::Result<()> {
     let task = r.task;
     match task {
-        7 => find_opening(number, sheet, entry, table, work),
-        8 => further(number, sheet, entry, r, table, work),
-        9 => blank(number, table),
-        _ => question(number, sheet, entry, r, table, work),
+        7 => find_opening(rt, number, sheet, entry, table, work),
+        8 => further(rt, number, sheet, entry, r, table, work),
+        9 => blank(rt, number, table),
+        _ => question(rt, number, sheet, entry, r, table, work),
     }
 }
 
 // Tasks 0, 4, 7, 8 and 9.
 fn run_question(
+    rt: &impl Print,
     number: u32,
     sheet: &[u8],
     entry: &[u8],
     r: Request,
     table: &mut [u32],
     work: &mut [u32],
-) {
+) -> io::Result<()> {
     let x = r.x as usize;
     let y = r.y as usize;
     if table.len() < x {
-        return print_fault(number);
+        return print_fault(rt, number);
     }
     if work.len() < y {
-        return print_fault(number);
+        return print_fault(rt, number);
     }
-    ask(number, sheet, entry, r, &mut table[0..x], &mut work[0..y]);
+    ask(
+        rt,
+        number,
+        sheet,
+        entry,
+        r,
+        &mut table[0..x],
+        &mut work[0..y],
+    )
 }
 
 // Task 1.
-fn run_machine(number: u32, sheet: &[u8], entry: &[u8], r: Request, frames: &mut [u32]) {
+fn run_machine(
+    rt: &impl Print,
+    number: u32,
+    sheet: &[u8],
+    entry: &[u8],
+    r: Request,
+    frames: &mut [u32],
+) -> io::Result<()> {
     let y = r.y as usize;
     if frames.len() < y {
-        return print_fault(number);
+        return print_fault(rt, number);
     }
     let ending = backtrack::run(sheet, entry, r.variable, r.position, &mut frames[0..y], r.x);
-    print_answer(number, 1, numbers_of_ending(ending), 0);
+    print_answer(rt, number, 1, numbers_of_ending(ending), 0)
 }
 
 // Checks the first lines of an output as a reading.
-fn check(number: u32, sheet: &[u8], entry: &[u8], r: Request, out: &[u8], lines: u32) {
+fn check(
+    rt: &impl Print,
+    number: u32,
+    sheet: &[u8],
+    entry: &[u8],
+    r: Request,
+    out: &[u8],
+    lines: u32,
+) -> io::Result<()> {
     let end = 49 * lines as usize;
     if out.len() < end {
-        return print_fault(number);
+        return print_fault(rt, number);
     }
     let claim = checker::check(sheet, entry, r.variable, r.position, &out[0..end]);
-    print_answer(number, 3, numbers_of_claim(claim, lines), 0);
+    print_answer(rt, number, 3, numbers_of_claim(claim, lines), 0)
 }
 
 // Writes a reading; the count of its lines.
 fn write(
+    rt: &impl Print,
     number: u32,
     sheet: &[u8],
     entry: &[u8],
@@ -321,22 +372,24 @@ fn write(
     table: &mut [u32],
     work: &mut [u32],
     out: &mut [u8],
-) -> u32 {
+) -> io::Result<u32> {
     fill_bytes(out);
     let written = writer::write(sheet, entry, r.variable, r.position, table, work, out);
     let answer = written.answer;
     let four = numbers_of_answer(answer);
     print_answer(
+        rt,
         number,
         2,
         Four(four.0, four.1, four.2, written.lines),
         sum_of_bytes(out),
-    );
-    written.lines
+    )?;
+    Ok(written.lines)
 }
 
 // Task 2, with the lent slices.
 fn reading(
+    rt: &impl Print,
     number: u32,
     sheet: &[u8],
     entry: &[u8],
@@ -344,13 +397,14 @@ fn reading(
     table: &mut [u32],
     work: &mut [u32],
     out: &mut [u8],
-) {
-    let lines = write(number, sheet, entry, r, table, work, out);
-    check(number, sheet, entry, r, out, lines);
+) -> io::Result<()> {
+    let lines = write(rt, number, sheet, entry, r, table, work, out)?;
+    check(rt, number, sheet, entry, r, out, lines)
 }
 
 // Task 2.
 fn run_reading(
+    rt: &impl Print,
     number: u32,
     sheet: &[u8],
     entry: &[u8],
@@ -358,20 +412,21 @@ fn run_reading(
     table: &mut [u32],
     work: &mut [u32],
     out: &mut [u8],
-) {
+) -> io::Result<()> {
     let x = r.x as usize;
     let y = r.y as usize;
     let cells = cells_of(x);
     if table.len() < x {
-        return print_fault(number);
+        return print_fault(rt, number);
     }
     if work.len() < cells {
-        return print_fault(number);
+        return print_fault(rt, number);
     }
     if out.len() < y {
-        return print_fault(number);
+        return print_fault(rt, number);
     }
     reading(
+        rt,
         number,
         sheet,
         entry,
@@ -379,11 +434,12 @@ fn run_reading(
         &mut table[0..x],
         &mut work[0..cells],
         &mut out[0..y],
-    );
+    )
 }
 
 // Task 3.
 fn run_damage(
+    rt: &impl Print,
     number: u32,
     sheet: &[u8],
     entry: &[u8],
@@ -391,21 +447,22 @@ fn run_damage(
     table: &mut [u32],
     work: &mut [u32],
     out: &mut [u8],
-) {
-    let lines = write(number, sheet, entry, r, table, work, out);
+) -> io::Result<()> {
+    let lines = write(rt, number, sheet, entry, r, table, work, out)?;
     let x = r.x as usize;
     if out.len() <= x {
-        return print_fault(number);
+        return print_fault(rt, number);
     }
     if 255 < r.y {
-        return print_fault(number);
+        return print_fault(rt, number);
     }
     out[x] = r.y as u8;
-    check(number, sheet, entry, r, out, lines);
+    check(rt, number, sheet, entry, r, out, lines)
 }
 
 // Tasks 4 and 9.
 fn run_kept(
+    rt: &impl Print,
     number: u32,
     sheet: &[u8],
     entry: &[u8],
@@ -413,12 +470,12 @@ fn run_kept(
     kept_entry: &mut [u8],
     kept_table: &mut [u32],
     work: &mut [u32],
-) {
+) -> io::Result<()> {
     if kept_entry.len() < entry.len() {
-        return print_fault(number);
+        return print_fault(rt, number);
     }
-    bytes::copy(entry, kept_entry);
-    run_question(number, sheet, entry, r, kept_table, work);
+    kept_entry[..entry.len()].copy_from_slice(entry);
+    run_question(rt, number, sheet, entry, r, kept_table, work)
 }
 
 // Makes a byte of an entry another, where the entry reaches so far.
@@ -430,6 +487,7 @@ fn set_byte(entry: &mut [u8], at: usize, byte: u8) {
 
 // A correction at x, with the lent slices.
 fn correct(
+    rt: &impl Print,
     number: u32,
     sheet: &[u8],
     old: &[u8],
@@ -437,13 +495,14 @@ fn correct(
     r: Request,
     table: &mut [u32],
     work: &mut [u32],
-) {
+) -> io::Result<()> {
     let answer = correction::correct(sheet, old, entry, r.variable, r.position, r.x, table, work);
-    print_outcome(number, 6, answer, table);
+    print_outcome(rt, number, 6, answer, table)
 }
 
 // A correction at x.
 fn run_correction(
+    rt: &impl Print,
     number: u32,
     sheet: &[u8],
     old: &[u8],
@@ -451,16 +510,17 @@ fn run_correction(
     r: Request,
     kept_table: &mut [u32],
     work: &mut [u32],
-) {
+) -> io::Result<()> {
     let lent = (r.y / 256) as usize;
     let cells = cells_of(lent);
     if kept_table.len() < lent {
-        return print_fault(number);
+        return print_fault(rt, number);
     }
     if work.len() < cells {
-        return print_fault(number);
+        return print_fault(rt, number);
     }
     correct(
+        rt,
         number,
         sheet,
         old,
@@ -468,30 +528,41 @@ fn run_correction(
         r,
         &mut kept_table[0..lent],
         &mut work[0..cells],
-    );
+    )
 }
 
 // Task 5: the entry as it was is shown.
 fn run_change(
+    rt: &impl Print,
     number: u32,
     sheet: &[u8],
     entry: &mut [u8],
     r: Request,
     kept_table: &mut [u32],
     work: &mut [u32],
-) {
+) -> io::Result<()> {
     let mut old = [0u8; 4097];
     let length = entry.len();
     if old.len() < length {
-        return print_fault(number);
+        return print_fault(rt, number);
     }
-    bytes::copy(entry, &mut old);
+    old[..length].copy_from_slice(entry);
     set_byte(entry, r.x as usize, (r.y % 256) as u8);
-    run_correction(number, sheet, &old[0..length], entry, r, kept_table, work);
+    run_correction(
+        rt,
+        number,
+        sheet,
+        &old[0..length],
+        entry,
+        r,
+        kept_table,
+        work,
+    )
 }
 
 // Task 12.
 fn run_shown(
+    rt: &impl Print,
     number: u32,
     sheet: &[u8],
     old: &[u8],
@@ -499,10 +570,10 @@ fn run_shown(
     kept_entry: &[u8],
     kept_table: &mut [u32],
     work: &mut [u32],
-) {
+) -> io::Result<()> {
     let length = (r.x / 8192) as usize;
     if kept_entry.len() < length {
-        return print_fault(number);
+        return print_fault(rt, number);
     }
     let at = Request {
         variable: r.variable,
@@ -512,6 +583,7 @@ fn run_shown(
         y: r.y,
     };
     run_correction(
+        rt,
         number,
         sheet,
         old,
@@ -519,25 +591,26 @@ fn run_shown(
         at,
         kept_table,
         work,
-    );
+    )
 }
 
 // Task 13.
-fn run_edit(number: u32, r: Request, kept_entry: &mut [u8]) {
+fn run_edit(rt: &impl Print, number: u32, r: Request, kept_entry: &mut [u8]) -> io::Result<()> {
     let x = r.x as usize;
     if kept_entry.len() <= x {
-        return print_fault(number);
+        return print_fault(rt, number);
     }
     if 255 < r.y {
-        return print_fault(number);
+        return print_fault(rt, number);
     }
     let before = wide(kept_entry[x]);
     kept_entry[x] = r.y as u8;
-    print_answer(number, 13, Four(0, 0, 0, before), 0);
+    print_answer(rt, number, 13, Four(0, 0, 0, before), 0)
 }
 
 // Tasks 5 and 8, on so many bytes of the kept entry.
 fn run_over(
+    rt: &impl Print,
     number: u32,
     sheet: &[u8],
     length: usize,
@@ -545,96 +618,130 @@ fn run_over(
     kept_entry: &mut [u8],
     kept_table: &mut [u32],
     work: &mut [u32],
-) {
+) -> io::Result<()> {
     if kept_entry.len() < length {
-        return print_fault(number);
+        return print_fault(rt, number);
     }
     let entry = &mut kept_entry[0..length];
     let task = r.task;
     match task {
-        5 => run_change(number, sheet, entry, r, kept_table, work),
-        _ => run_question(number, sheet, entry, r, kept_table, work),
+        5 => run_change(rt, number, sheet, entry, r, kept_table, work),
+        _ => run_question(rt, number, sheet, entry, r, kept_table, work),
     }
 }
 
 // Task 6.
-fn run_put(number: u32, r: Request, kept_table: &mut [u32]) {
+fn run_put(rt: &impl Print, number: u32, r: Request, kept_table: &mut [u32]) -> io::Result<()> {
     let x = r.x as usize;
     if kept_table.len() <= x {
-        return print_fault(number);
+        return print_fault(rt, number);
     }
     let before = kept_table[x];
     kept_table[x] = r.y;
-    print_answer(number, 7, Four(0, 0, 0, before), 0);
+    print_answer(rt, number, 7, Four(0, 0, 0, before), 0)
 }
 
 // Task 10, with the lent tables.
-fn store(number: u32, r: Request, table: &[u32], stored_table: &mut [u32]) {
+fn store(
+    rt: &impl Print,
+    number: u32,
+    r: Request,
+    table: &[u32],
+    stored_table: &mut [u32],
+) -> io::Result<()> {
     fill_numbers(stored_table, UNTOUCHED_NUMBER);
     let stored = archive::store(r.variable, r.position, table, stored_table);
     print_answer(
+        rt,
         number,
         11,
         numbers_of_stored(stored),
         sum_of_numbers(stored_table),
-    );
+    )
 }
 
 // Task 11, with the lent tables.
-fn restore(number: u32, r: Request, stored_table: &[u32], table: &mut [u32]) {
+fn restore(
+    rt: &impl Print,
+    number: u32,
+    r: Request,
+    stored_table: &[u32],
+    table: &mut [u32],
+) -> io::Result<()> {
     fill_numbers(table, UNTOUCHED_NUMBER);
     let stored = archive::restore(r.variable, r.position, stored_table, table);
-    print_answer(number, 12, numbers_of_stored(stored), sum_of_numbers(table));
+    print_answer(
+        rt,
+        number,
+        12,
+        numbers_of_stored(stored),
+        sum_of_numbers(table),
+    )
 }
 
 // Tasks 10 and 11, from one table to the other.
-fn run_archive(number: u32, r: Request, source: &[u32], target: &mut [u32]) {
+fn run_archive(
+    rt: &impl Print,
+    number: u32,
+    r: Request,
+    source: &[u32],
+    target: &mut [u32],
+) -> io::Result<()> {
     let x = r.x as usize;
     let y = r.y as usize;
     if source.len() < x {
-        return print_fault(number);
+        return print_fault(rt, number);
     }
     if target.len() < y {
-        return print_fault(number);
+        return print_fault(rt, number);
     }
     let task = r.task;
     match task {
-        10 => store(number, r, &source[0..x], &mut target[0..y]),
-        _ => restore(number, r, &source[0..x], &mut target[0..y]),
+        10 => store(rt, number, r, &source[0..x], &mut target[0..y]),
+        _ => restore(rt, number, r, &source[0..x], &mut target[0..y]),
     }
 }
 
 // Tasks 2 and 3, with an output.
 fn run_written(
+    rt: &impl Print,
     number: u32,
     sheet: &[u8],
     entry: &[u8],
     r: Request,
     table: &mut [u32],
     work: &mut [u32],
-) {
+) -> io::Result<()> {
     let mut out = [0u8; 262144];
     let task = r.task;
     match task {
-        2 => run_reading(number, sheet, entry, r, table, work, &mut out),
-        3 => run_damage(number, sheet, entry, r, table, work, &mut out),
-        _ => print_fault(number),
+        2 => run_reading(rt, number, sheet, entry, r, table, work, &mut out),
+        3 => run_damage(rt, number, sheet, entry, r, table, work, &mut out),
+        _ => print_fault(rt, number),
     }
 }
 
 // Tasks 0, 2, 3 and 7, with a table of 32,768 cells.
-fn run_fresh(number: u32, sheet: &[u8], entry: &[u8], r: Request, work: &mut [u32]) {
+fn run_fresh(
+    rt: &impl Print,
+    number: u32,
+    sheet: &[u8],
+    entry: &[u8],
+    r: Request,
+    work: &mut [u32],
+) -> io::Result<()> {
     let mut table = [0u32; 65536];
     let task = r.task;
     match task {
-        0 | 7 => run_question(number, sheet, entry, r, &mut table, work),
-        _ => run_written(number, sheet, entry, r, &mut table, work),
+        0 | 7 => run_question(rt, number, sheet, entry, r, &mut table, work),
+        _ => run_written(rt, number, sheet, entry, r, &mut table, work),
     }
 }
 
 // Runs a request on its sheet and its entry, over slices of its own and what is kept or stored. The work slice has twice the numbers that the
 // cells of a table need, for the machine's frames.
 fn run(
+    rt: &impl Print,
     number: u32,
     sheet: &[u8],
     entry: &[u8],
@@ -642,13 +749,16 @@ fn run(
     kept_entry: &mut [u8],
     kept_table: &mut [u32],
     stored_table: &mut [u32],
-) {
+) -> io::Result<()> {
     let mut work = [UNTOUCHED_NUMBER; 65536];
     let task = r.task;
     match task {
-        1 => run_machine(number, sheet, entry, r, &mut work),
-        4 | 9 => run_kept(number, sheet, entry, r, kept_entry, kept_table, &mut work),
+        1 => run_machine(rt, number, sheet, entry, r, &mut work),
+        4 | 9 => run_kept(
+            rt, number, sheet, entry, r, kept_entry, kept_table, &mut work,
+        ),
         5 | 8 => run_over(
+            rt,
             number,
             sheet,
             entry.len(),
@@ -657,12 +767,14 @@ fn run(
             kept_table,
             &mut work,
         ),
-        6 => run_put(number, r, kept_table),
-        10 => run_archive(number, r, kept_table, stored_table),
-        11 => run_archive(number, r, stored_table, kept_table),
-        12 => run_shown(number, sheet, entry, r, kept_entry, kept_table, &mut work),
-        13 => run_edit(number, r, kept_entry),
-        _ => run_fresh(number, sheet, entry, r, &mut work),
+        6 => run_put(rt, number, r, kept_table),
+        10 => run_archive(rt, number, r, kept_table, stored_table),
+        11 => run_archive(rt, number, r, stored_table, kept_table),
+        12 => run_shown(
+            rt, number, sheet, entry, r, kept_entry, kept_table, &mut work,
+        ),
+        13 => run_edit(rt, number, r, kept_entry),
+        _ => run_fresh(rt, number, sheet, entry, r, &mut work),
     }
 }
 
@@ -689,6 +801,7 @@ fn size(x: u32) -> usize {
 
 // Takes the entry of a request, and runs it.
 fn run_on_sheet(
+    rt: &impl Print,
     number: u32,
     sheet: &[u8],
     entries: &[u8],
@@ -696,14 +809,14 @@ fn run_on_sheet(
     kept_entry: &mut [u8],
     kept_table: &mut [u32],
     stored_table: &mut [u32],
-) {
+) -> io::Result<()> {
     let start = size(numbers[2]);
     let length = size(numbers[3]);
     if entries.len() < length {
-        return print_fault(number);
+        return print_fault(rt, number);
     }
     if entries.len() - length < start {
-        return print_fault(number);
+        return print_fault(rt, number);
     }
     let end = start + length;
     let r = Request {
@@ -714,6 +827,7 @@ fn run_on_sheet(
         y: numbers[8],
     };
     run(
+        rt,
         number,
         sheet,
         &entries[start..end],
@@ -721,11 +835,12 @@ fn run_on_sheet(
         kept_entry,
         kept_table,
         stored_table,
-    );
+    )
 }
 
 // Takes the sheet of a request, and runs it.
 fn run_numbers(
+    rt: &impl Print,
     number: u32,
     sheets: &[u8],
     entries: &[u8],
@@ -733,17 +848,18 @@ fn run_numbers(
     kept_entry: &mut [u8],
     kept_table: &mut [u32],
     stored_table: &mut [u32],
-) {
+) -> io::Result<()> {
     let start = size(numbers[0]);
     let length = size(numbers[1]);
     if sheets.len() < length {
-        return print_fault(number);
+        return print_fault(rt, number);
     }
     if sheets.len() - length < start {
-        return print_fault(number);
+        return print_fault(rt, number);
     }
     let end = start + length;
     run_on_sheet(
+        rt,
         number,
         &sheets[start..end],
         entries,
@@ -751,11 +867,12 @@ fn run_numbers(
         kept_entry,
         kept_table,
         stored_table,
-    );
+    )
 }
 
 // Runs the request of a line.
 fn run_line(
+    rt: &impl Print,
     number: u32,
     line: &[u8],
     sheets: &[u8],
@@ -763,12 +880,13 @@ fn run_line(
     kept_entry: &mut [u8],
     kept_table: &mut [u32],
     stored_table: &mut [u32],
-) {
+) -> io::Result<()> {
     let mut numbers = [0u32; 9];
     if !read_numbers(line, &mut numbers) {
-        return print_fault(number);
+        return print_fault(rt, number);
     }
     run_numbers(
+        rt,
         number,
         sheets,
         entries,
@@ -776,7 +894,7 @@ fn run_line(
         kept_entry,
         kept_table,
         stored_table,
-    );
+    )
 }
 
 // The end of the line that starts at a position: 73 bytes further, or the text's end.
@@ -791,7 +909,13 @@ fn line_end(start: usize, length: usize) -> usize
 }
 
 // Runs the request of each line. A kept entry may be one byte too long for the calls.
-fn run_lines(questions: &[u8], sheets: &[u8], entries: &[u8], stored_table: &mut [u32]) {
+fn run_lines(
+    rt: &impl Print,
+    questions: &[u8],
+    sheets: &[u8],
+    entries: &[u8],
+    stored_table: &mut [u32],
+) -> io::Result<()> {
     let mut kept_entry = [0u8; 4097];
     let mut kept_table = [0u32; 65536];
     let mut number: u32 = 0;
@@ -800,6 +924,7 @@ fn run_lines(questions: &[u8], sheets: &[u8], entries: &[u8], stored_table: &mut
         let end = line_end(at, questions.len());
         number = number % 99999999 + 1;
         run_line(
+            rt,
             number,
             &questions[at..end],
             sheets,
@@ -807,52 +932,64 @@ fn run_lines(questions: &[u8], sheets: &[u8], entries: &[u8], stored_table: &mut
             &mut kept_entry,
             &mut kept_table,
             stored_table,
-        );
+        )?;
         at = end;
     }
+    Ok(())
 }
 
 // Runs all requests, and prints how many bytes were read of each file.
-fn run_all(questions: &[u8], sheets: &[u8], entries: &[u8]) {
+fn run_all(rt: &impl Print, questions: &[u8], sheets: &[u8], entries: &[u8]) -> io::Result<()> {
     let mut stored_table = [0u32; 65536];
-    run_lines(questions, sheets, entries, &mut stored_table);
+    run_lines(rt, questions, sheets, entries, &mut stored_table)?;
     let read = Four(
         low_digits(sheets.len()),
         low_digits(entries.len()),
         low_digits(questions.len()),
         0,
     );
-    print_answer(0, 5, read, 0);
+    print_answer(rt, 0, 5, read, 0)
+}
+
+// Reads until the buffer is full, the input ends or a read fails; the count of bytes that were read.
+fn read_full<R: Read>(reader: &mut R, buffer: &mut [u8]) -> usize
+    ensures { IsPrefixLen result buffer.new }
+{
+    let mut done = 0;
+    while done < buffer.len() {
+        match reader.read(&mut buffer[done..]) {
+            Ok(0) | Err(_) => break,
+            Ok(n) => done += n,
+        }
+    }
+    done
 }
 
 // The bytes of a file, as far as the buffer goes; none where it cannot be opened.
-fn load(name: &[u8], buffer: &mut [u8]) -> usize
+fn load(rt: &impl Files, name: &str, buffer: &mut [u8]) -> usize
     ensures { IsPrefixLen result buffer.new }
 {
-    let file = os::open_read(name);
-    if file < 0 {
-        return 0;
+    match fs::open(rt, name) {
+        Ok(mut file) => read_full(&mut file, buffer),
+        Err(_) => 0,
     }
-    let count = io::read_full(file, buffer);
-    libc::close(file);
-    count
 }
 
-fn load_questions(sheets: &[u8], entries: &[u8]) {
+fn load_questions(rt: &(impl Files + Print), sheets: &[u8], entries: &[u8]) -> io::Result<()> {
     let mut questions = [0u8; 262144];
-    let length = load(b"questions.txt", &mut questions);
-    run_all(&questions[..length], sheets, entries);
+    let length = load(rt, "questions.txt", &mut questions);
+    run_all(rt, &questions[..length], sheets, entries)
 }
 
-fn load_entries(sheets: &[u8]) {
+fn load_entries(rt: &(impl Files + Print), sheets: &[u8]) -> io::Result<()> {
     let mut entries = [0u8; 262144];
-    let length = load(b"entries", &mut entries);
-    load_questions(sheets, &entries[..length]);
+    let length = load(rt, "entries", &mut entries);
+    load_questions(rt, sheets, &entries[..length])
 }
 
 // A file that is longer than its buffer is cut, which the last line of the output shows.
-fn main() {
+fn main(rt: HostRuntime) -> io::Result<()> {
     let mut sheets = [0u8; 262144];
-    let length = load(b"sheets.txt", &mut sheets);
-    load_entries(&sheets[..length]);
+    let length = load(&rt, "sheets.txt", &mut sheets);
+    load_entries(&rt, &sheets[..length])
 }

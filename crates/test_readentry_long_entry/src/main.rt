@@ -1,6 +1,8 @@
 // An entry of 4,097 bytes.
 #![tactic(auto)]
 
-fn main() {
-    output::program::run();
+use std::io;
+
+fn main(rt: HostRuntime) -> io::Result<()> {
+    output::program::run(&rt)
 }

@@ -1,6 +1,8 @@
 // A sheet of 257 lines and one byte more.
 #![tactic(auto)]
 
-fn main() {
-    output::program::run();
+use std::io;
+
+fn main(rt: HostRuntime) -> io::Result<()> {
+    output::program::run(&rt)
 }

@@ -1,6 +1,8 @@
 // No sheet file: it counts as empty.
 #![tactic(auto)]
 
-fn main() {
-    output::program::run();
+use std::io;
+
+fn main(rt: HostRuntime) -> io::Result<()> {
+    output::program::run(&rt)
 }

@@ -17,14 +17,16 @@
 // After the requests come four long texts that are made here, with the number 0.
 #![tactic(auto)]
 
-ghost use Rattle.io.specs.Counts.{IsPrefixLen};
+ghost use Rattle.std.specs.Counts.{IsPrefixLen};
 
 use columns::{Cursor, Field};
 use finish::Answer;
 use grammar::sheet::Sheet;
-use libc::STDOUT_FILENO;
 use rows::write_field;
 use shorthand::Compiled;
+use std::io::Read;
+use std::rt::Files;
+use std::{fs, io};
 
 // What stands in an output before a call.
 const UNTOUCHED: u8 = 42;
@@ -37,10 +39,10 @@ struct Request {
     greatest: u32,
 }
 
-fn print_field(x: u32) {
+fn print_field(rt: &impl Print, x: u32) -> io::Result<()> {
     let mut field = [0u8; 8];
     write_field(&mut field, x);
-    io::write_all(STDOUT_FILENO, &field);
+    rt.write_all(&field)
 }
 
 // 1 where all bytes from a position on are untouched, else 0.
@@ -56,72 +58,99 @@ fn untouched(out: &[u8], from: usize) -> u32 {
 }
 
 // The outcome of a variable at a position.
-fn print_outcome(sheet: &[u8], input: &[u8], variable: u32, position: u32) {
+fn print_outcome(
+    rt: &impl Print,
+    sheet: &[u8],
+    input: &[u8],
+    variable: u32,
+    position: u32,
+) -> io::Result<()> {
     let mut table = [0u32; 8192];
     let mut work = [0u32; 4096];
     let answer = memo::question(sheet, input, variable, position, &mut table, &mut work);
     match answer {
-        Answer::Success(end, _) => print_field(5 + end % 65536),
-        Answer::Failure(_) => print_field(1),
-        Answer::Loop(_, _, _) => print_field(2),
-        Answer::Missing(_, _, _) => print_field(3),
-        Answer::Refused(_, _) => print_field(0),
+        Answer::Success(end, _) => print_field(rt, 5 + end % 65536),
+        Answer::Failure(_) => print_field(rt, 1),
+        Answer::Loop(_, _, _) => print_field(rt, 2),
+        Answer::Missing(_, _, _) => print_field(rt, 3),
+        Answer::Refused(_, _) => print_field(rt, 0),
     }
 }
 
 // The line of a variable.
-fn print_outcomes(number: u32, sheet: &[u8], input: &[u8], variable: u32) {
-    print_field(number);
-    print_field(variable);
+fn print_outcomes(
+    rt: &impl Print,
+    number: u32,
+    sheet: &[u8],
+    input: &[u8],
+    variable: u32,
+) -> io::Result<()> {
+    print_field(rt, number)?;
+    print_field(rt, variable)?;
     let last = (input.len() % 65536) as u32;
     let mut position: u32 = 0;
     while position <= last {
-        print_outcome(sheet, input, variable, position);
+        print_outcome(rt, sheet, input, variable, position)?;
         position += 1;
     }
-    io::write_all(STDOUT_FILENO, &[b'\n']);
+    rt.write_all(b"\n")
 }
 
 // What is printed of an accepted text behind the first three fields.
-fn print_sheet(number: u32, sheet: &[u8], input: &[u8], r: Request) {
+fn print_sheet(
+    rt: &impl Print,
+    number: u32,
+    sheet: &[u8],
+    input: &[u8],
+    r: Request,
+) -> io::Result<()> {
     let mut rules = [0u32; 256];
     let Sheet::Read(grammar) = grammar::sheet::read_sheet(sheet, &mut rules) else {
-        return;
+        return Ok(());
     };
     let variables = grammar.variables;
-    print_field((r.least <= variables && variables <= r.greatest) as u32);
-    print_field((grammar.start == 1 && grammar.endmarker == 46) as u32);
-    io::write_all(STDOUT_FILENO, &[b'\n']);
+    print_field(rt, (r.least <= variables && variables <= r.greatest) as u32)?;
+    print_field(rt, (grammar.start == 1 && grammar.endmarker == 46) as u32)?;
+    rt.write_all(b"\n")?;
     let letters = r.least;
     let mut variable: u32 = 0;
     while variable < letters {
         variable += 1;
-        print_outcomes(number, sheet, input, variable);
+        print_outcomes(rt, number, sheet, input, variable)?;
     }
+    Ok(())
 }
 
 // Compiles a text into an untouched output, and prints the answer.
-fn run(number: u32, text: &[u8], input: &[u8], r: Request, out: &mut [u8]) {
+fn run(
+    rt: &impl Print,
+    number: u32,
+    text: &[u8],
+    input: &[u8],
+    r: Request,
+    out: &mut [u8],
+) -> io::Result<()> {
     let room = r.room as usize;
     if out.len() < room {
-        return;
+        return Ok(());
     }
-    print_field(number);
+    print_field(rt, number)?;
     let compiled = shorthand::compile(text, &mut out[0..room]);
     match compiled {
         Compiled::Refused(refusal, _) => {
-            print_field(refusal);
-            print_field(untouched(out, 0));
-            io::write_all(STDOUT_FILENO, &[b'\n']);
+            print_field(rt, refusal)?;
+            print_field(rt, untouched(out, 0))?;
+            rt.write_all(b"\n")?;
         }
         Compiled::Length(length) => {
-            print_field(0);
-            print_field(untouched(out, length));
+            print_field(rt, 0)?;
+            print_field(rt, untouched(out, length))?;
             if length <= out.len() {
-                print_sheet(number, &out[0..length], input, r);
+                print_sheet(rt, number, &out[0..length], input, r)?;
             }
         }
     }
+    Ok(())
 }
 
 // The number in a field of 8 columns, 0 where there is none.
@@ -134,16 +163,22 @@ fn field(line: &[u8], at: usize) -> u32 {
 }
 
 // Runs the request of a line.
-fn run_line(number: u32, line: &[u8], texts: &[u8], entries: &[u8]) {
+fn run_line(
+    rt: &impl Print,
+    number: u32,
+    line: &[u8],
+    texts: &[u8],
+    entries: &[u8],
+) -> io::Result<()> {
     let text = field(line, 0) as usize;
     let text_end = text + field(line, 8) as usize;
     if texts.len() < text_end {
-        return;
+        return Ok(());
     }
     let entry = field(line, 16) as usize;
     let entry_end = entry + field(line, 24) as usize;
     if entries.len() < entry_end {
-        return;
+        return Ok(());
     }
     let r = Request {
         room: field(line, 32),
@@ -152,27 +187,29 @@ fn run_line(number: u32, line: &[u8], texts: &[u8], entries: &[u8]) {
     };
     let mut out = [UNTOUCHED; 8192];
     run(
+        rt,
         number,
         &texts[text..text_end],
         &entries[entry..entry_end],
         r,
         &mut out,
-    );
+    )
 }
 
 // Runs the request of each line of 57 bytes.
-fn run_lines(requests: &[u8], texts: &[u8], entries: &[u8]) {
+fn run_lines(rt: &impl Print, requests: &[u8], texts: &[u8], entries: &[u8]) -> io::Result<()> {
     let mut number: u32 = 0;
     let mut at: usize = 0;
     while 57 <= requests.len() - at {
         number = number % 99999999 + 1;
-        run_line(number, &requests[at..at + 57], texts, entries);
+        run_line(rt, number, &requests[at..at + 57], texts, entries)?;
         at += 57;
     }
+    Ok(())
 }
 
 // Compiles `A=`, a byte again and again, and a last byte.
-fn run_long(byte: u8, last: u8) {
+fn run_long(rt: &impl Print, byte: u8, last: u8) -> io::Result<()> {
     let mut text = [byte; 200000];
     text[0] = b'A';
     text[1] = b'=';
@@ -183,36 +220,48 @@ fn run_long(byte: u8, last: u8) {
         greatest: 0,
     };
     let mut out = [UNTOUCHED; 8192];
-    run(0, &text, b"", r, &mut out);
+    run(rt, 0, &text, b"", r, &mut out)
+}
+
+// Reads until the buffer is full, the input ends or a read fails; the count of bytes that were read.
+fn read_full<R: Read>(reader: &mut R, buffer: &mut [u8]) -> usize
+    ensures { IsPrefixLen result buffer.new }
+{
+    let mut done = 0;
+    while done < buffer.len() {
+        match reader.read(&mut buffer[done..]) {
+            Ok(0) | Err(_) => break,
+            Ok(n) => done += n,
+        }
+    }
+    done
 }
 
 // The bytes of a file, as far as the buffer goes; none where it cannot be opened.
-fn load(name: &[u8], buffer: &mut [u8]) -> usize
+fn load(rt: &impl Files, name: &str, buffer: &mut [u8]) -> usize
     ensures { IsPrefixLen result buffer.new }
 {
-    let file = os::open_read(name);
-    if file < 0 {
-        return 0;
+    match fs::open(rt, name) {
+        Ok(mut file) => read_full(&mut file, buffer),
+        Err(_) => 0,
     }
-    let count = io::read_full(file, buffer);
-    libc::close(file);
-    count
 }
 
-fn main() {
+fn main(rt: HostRuntime) -> io::Result<()> {
     let mut texts = [0u8; 65536];
     let mut entries = [0u8; 65536];
     let mut requests = [0u8; 65536];
-    let texts_end = load(b"texts", &mut texts);
-    let entries_end = load(b"entries", &mut entries);
-    let requests_end = load(b"requests.txt", &mut requests);
+    let texts_end = load(&rt, "texts", &mut texts);
+    let entries_end = load(&rt, "entries", &mut entries);
+    let requests_end = load(&rt, "requests.txt", &mut requests);
     run_lines(
+        &rt,
         &requests[..requests_end],
         &texts[..texts_end],
         &entries[..entries_end],
-    );
-    run_long(b'/', 10);
-    run_long(b'%', 10);
-    run_long(b'/', b'/');
-    run_long(b'%', b'%');
+    )?;
+    run_long(&rt, b'/', 10)?;
+    run_long(&rt, b'%', 10)?;
+    run_long(&rt, b'/', b'/')?;
+    run_long(&rt, b'%', b'%')
 }
