@@ -2,10 +2,9 @@
 ghost use Rattle.std.specs.Counts.{IsPrefixLen};
 
 use crate::write_output;
-use std::fs;
-use std::io;
 use std::io::Read;
 use std::rt::Files;
+use std::{fs, io};
 
 // Reads until the buffer is full, the input ends or a read fails; the count of bytes that were read.
 pub fn read_full<R: Read>(reader: &mut R, buffer: &mut [u8]) -> usize
