@@ -82,7 +82,7 @@ fn make_all(names: &[&str], out: &Path) -> Result<(), String> {
             .map_err(|error| format!("{}: {error}", list.display()))?;
     }
     announce(&format!(
-        "proving and compiling {} with `rt`: about four minutes the first time, seconds later",
+        "proving and compiling {} with `rt`: some minutes the first time, seconds later",
         names.join(" and ")
     ));
     names.iter().try_for_each(|name| make(&root, out, name))
