@@ -1,14 +1,12 @@
 use mathlib.Core.Path.{refl}
+use borrow.Author.Rules.{rules}
 use Rattle.output.proofs.certificate.Goals as goal
-
-pub returns-then-code-eq9 : goal.returns-then-code-eq9
-returns-then-code-eq9 c = record { nothing = λ e. (refl, refl); writing = λ d. absurd (d c.if-code-eq9.true) }
 
 pub returns : goal.returns
 returns c =
     let a = c.args in
     record {
-      nothing = λ e. absurd (c.if-code-eq9.false e);
+      nothing = search rules;
       writing = λ d. record {
         start = c.start_of-start.result;
         start_is = c.start_of-start.ensures;
