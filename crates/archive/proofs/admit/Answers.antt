@@ -14,7 +14,7 @@ returns-then-variables-lt1 c =
 pub returns-then-variables-gt256 : goal.returns-then-variables-gt256
 returns-then-variables-gt256 c =
     let a = c.args in
-    sym (movable_by a.variables a.n a.source a.target true _ _ (ap not (within_high 1 256 a.variables c.if-variables-gt256.true)) refl refl)
+    sym (movable_by a.variables a.n a.source a.target true _ _ (ap not (within_high 1 256 a.variables (omega arith))) refl refl)
 
 pub returns-then-n-gt4096 : goal.returns-then-n-gt4096
 returns-then-n-gt4096 c =
@@ -24,11 +24,11 @@ returns-then-n-gt4096 c =
 pub returns-then-too_short : goal.returns-then-too_short
 returns-then-too_short c =
     let a = c.args in
-    sym (movable_by a.variables a.n a.source a.target false false true (ap not (within_both 1 256 a.variables (omega arith) (omega arith))) (le-ltb _ _ c.if-n-gt4096.false)
+    sym (movable_by a.variables a.n a.source a.target false false true (ap not (within_both 1 256 a.variables (omega arith) (omega arith))) (le-ltb 4096 a.n (omega arith))
     (sym c.too_short.ensures ∙ c.if-too_short.true))
 
 pub returns : goal.returns
 returns c =
     let a = c.args in
-    sym (movable_by a.variables a.n a.source a.target false false false (ap not (within_both 1 256 a.variables (omega arith) (omega arith))) (le-ltb _ _ c.if-n-gt4096.false)
+    sym (movable_by a.variables a.n a.source a.target false false false (ap not (within_both 1 256 a.variables (omega arith) (omega arith))) (le-ltb 4096 a.n (omega arith))
     (sym c.too_short.ensures ∙ c.if-too_short.false))

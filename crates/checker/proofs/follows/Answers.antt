@@ -17,7 +17,7 @@ pub returns-then-variables-line : goal.returns-then-variables-line
 unfolding Rattle.checker.specs.Checker.follows
 returns-then-variables-line c =
     let a = c.args in
-    rw (within_high 1 a.variables a.line.variable c.if-variables-line.true)
+    rw (within_high 1 a.variables a.line.variable (omega arith))
 
 pub returns-then-input-line : goal.returns-then-input-line
 unfolding Rattle.checker.specs.Checker.follows

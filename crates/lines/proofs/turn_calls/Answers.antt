@@ -1,5 +1,6 @@
 use mathlib.Core.Logic.{inl}
-use mathlib.Core.Path.{refl, sym, ◌∙◌}
+use mathlib.Core.Path.{◌≡◌, refl, sym, ◌∙◌}
+use native.Mathlib.Omega.{arith}
 use Rattle.schema.specs.Derivation.{◌at◌, second}
 use Rattle.lines.proofs.Turning.{number_cell, first_cell, ends, after_failure, after_success, then_second}
 use borrow.Author.Rules.{rules}
@@ -10,7 +11,9 @@ number_at-number-requires c =
     number_cell c.requires c.args.b c.args.position c.requires.b_in c.requires.position_in
 
 pub returns-then-number-eq0 : goal.returns-then-number-eq0
-returns-then-number-eq0 c = λ t m. inl (refl, sym c.number_at-number.ensures ∙ c.if-number-eq0.true)
+returns-then-number-eq0 c =
+    let none : c.number_at-number.result ≡ 0 = omega arith in
+    λ t m. inl (refl, sym c.number_at-number.ensures ∙ none)
 
 pub load-first-requires : goal.load-first-requires
 load-first-requires c =
@@ -25,7 +28,7 @@ returns-then-first c =
     let a = c.args in
     λ t m.
     then_second a.n a.work.now (a.b at a.position) (second a.c a.d a.position t) (a.d at a.position) c.number_at-number.result c.turn_second.result
-    c.number_at-number.ensures c.if-number-eq0.false (after_failure c.requires c.load-first.ensures.0 c.cell_number.ensures c.if-first.true t m) c.turn_second.ensures
+    c.number_at-number.ensures (λ e. c.if-number-eq0.false (omega arith)) (after_failure c.requires c.load-first.ensures.0 c.cell_number.ensures c.if-first.true t m) c.turn_second.ensures
 
 pub overflow_sub-first : goal.overflow_sub-first
 overflow_sub-first c =
@@ -40,4 +43,4 @@ returns c =
     let a = c.args in
     λ t m.
     then_second a.n a.work.now (a.b at a.position) (second a.c a.d a.position t) _ c.number_at-number.result c.turn_second-2.result
-    c.number_at-number.ensures c.if-number-eq0.false (after_success c.requires c.load-first.ensures.0 c.cell_number.ensures c.if-first.false t m) c.turn_second-2.ensures
+    c.number_at-number.ensures (λ e. c.if-number-eq0.false (omega arith)) (after_success c.requires c.load-first.ensures.0 c.cell_number.ensures c.if-first.false t m) c.turn_second-2.ensures

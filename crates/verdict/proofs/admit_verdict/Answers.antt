@@ -1,5 +1,6 @@
 use mathlib.Core.Path.{refl, sym, ◌∙◌}
 use native.Mathlib.Omega.{arith}
+use lib.ListN.{length}
 use borrow.Author.Rules.{rules}
 use borrow.Author.Tests.{lt-ltb, le-ltb}
 use Rattle.verdict.proofs.Judged.{refused_sheet, few, refused_then, admitted_then}
@@ -9,7 +10,7 @@ pub returns-then-input-gt4096 : goal.returns-then-input-gt4096
 returns-then-input-gt4096 c =
     let a = c.args in
     let p = c.read_sheet-read.ensures in
-    refused_then p a.input.now a.table a.work c.in-Read.is (lt-ltb _ _ c.if-input-gt4096.true) refl (λ g. refl)
+    refused_then p a.input.now a.table a.work c.in-Read.is (lt-ltb 4096 (length a.input.now) (omega arith)) refl (λ g. refl)
 
 pub too_small-requires : goal.too_small-requires
 too_small-requires c =
@@ -21,7 +22,7 @@ pub returns-then-too_small : goal.returns-then-too_small
 returns-then-too_small c =
     let a = c.args in
     let p = c.read_sheet-read.ensures in
-    refused_then p a.input.now a.table a.work c.in-Read.is (le-ltb _ _ c.if-input-gt4096.false)
+    refused_then p a.input.now a.table a.work c.in-Read.is (le-ltb 4096 (length a.input.now) (omega arith))
     (sym c.if-too_small.true ∙ c.too_small.ensures) (λ g. refl)
 
 pub returns-in-Refused : goal.returns-in-Refused
@@ -33,5 +34,5 @@ pub returns-else-too_small : goal.returns-else-too_small
 returns-else-too_small c =
     let a = c.args in
     let p = c.read_sheet-read.ensures in
-    admitted_then p a.input.now a.table a.work c.in-Read.is (le-ltb _ _ c.if-input-gt4096.false)
+    admitted_then p a.input.now a.table a.work c.in-Read.is (le-ltb 4096 (length a.input.now) (omega arith))
     (sym c.if-too_small.false ∙ c.too_small.ensures) (λ g. refl)

@@ -28,14 +28,14 @@ returns-then-first-end-2 c =
     let a = c.args in
     let r = c.skip_blanks-first in
     found a.w a.s.now a.self.at (some 0) (omega arith)
-    (sym r.ensures.same ∙ zero_read a.s.now r.result (a.self.at + a.w) (omega arith) c.if-s-first-eq48.true c.if-first-end-2.true)
+    (sym r.ensures.same ∙ zero_read a.s.now r.result (a.self.at + a.w) (omega arith) (omega arith) c.if-first-end-2.true)
 
 pub returns-then-s-first-eq48 : goal.returns-then-s-first-eq48
 returns-then-s-first-eq48 c =
     let a = c.args in
     let r = c.skip_blanks-first in
     found a.w a.s.now a.self.at none (omega arith)
-    (sym r.ensures.same ∙ zero_fault a.s.now r.result (a.self.at + a.w) (omega arith) c.if-s-first-eq48.true (omega arith))
+    (sym r.ensures.same ∙ zero_fault a.s.now r.result (a.self.at + a.w) (omega arith) (omega arith) (omega arith))
 
 pub returns-in-Value : goal.returns-in-Value
 returns-in-Value c =
@@ -43,7 +43,7 @@ returns-in-Value c =
     let a = c.args in
     found a.w a.s.now a.self.at (some c.in-Value.x) (omega arith)
     (sym r.ensures.same
-    ∙ digits_read a.s.now r.result (a.self.at + a.w) (omega arith) (omega arith) (r.ensures.stop (omega arith)) c.if-s-first-eq48.false
+    ∙ digits_read a.s.now r.result (a.self.at + a.w) (omega arith) (omega arith) (r.ensures.stop (omega arith)) (λ e. c.if-s-first-eq48.false (omega arith))
     ∙ sym c.read_digits.ensures ∙ ap held c.in-Value.is)
 
 pub returns-in-Fault : goal.returns-in-Fault
@@ -52,5 +52,5 @@ returns-in-Fault c =
     let a = c.args in
     found a.w a.s.now a.self.at none (omega arith)
     (sym r.ensures.same
-    ∙ digits_read a.s.now r.result (a.self.at + a.w) (omega arith) (omega arith) (r.ensures.stop (omega arith)) c.if-s-first-eq48.false
+    ∙ digits_read a.s.now r.result (a.self.at + a.w) (omega arith) (omega arith) (r.ensures.stop (omega arith)) (λ e. c.if-s-first-eq48.false (omega arith))
     ∙ sym c.read_digits.ensures ∙ ap held c.in-Fault.is)

@@ -14,13 +14,13 @@ pub returns-then-s-k-ne10 : goal.returns-then-s-k-ne10
 returns-then-s-k-ne10 c =
     let l = c.loop-k in
     let a = c.args in
-    open_found a.s.now l.k a.count (omega arith) c.if-s-k-ne10.true
+    open_found a.s.now l.k a.count (omega arith) (λ e. c.if-s-k-ne10.true (omega arith))
 
 pub loop-k-preserved : goal.loop-k-preserved
 loop-k-preserved c =
     let l = c.loop-k in
     let a = c.args in
-    (omega arith, line_ended a.s.now l.k l.invariant.1 c.if-s-k-ne10.false)
+    (omega arith, line_ended a.s.now l.k l.invariant.1 (omega arith))
 
 pub returns : goal.returns
 returns c =
