@@ -5,5 +5,6 @@ pub mod Rule
 pub mod Sheet
 pub mod Printing
 pub mod Words
+pub mod Numbers
 pub mod Promise
 pub mod Reading

@@ -1,4 +1,5 @@
 // The rule sheet of a grammar.
 #![tactic(auto)]
 
+pub mod refusal;
 pub mod sheet;
