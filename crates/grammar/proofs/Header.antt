@@ -5,16 +5,17 @@ use mathlib.Core.List.{List, [], ◌∷◌}
 use mathlib.Core.Option.{none, some}
 use Prim.Native.Nat.{ℕ, ◌*◌, ◌-◌, ◌≤◌, ◌<◌}
 use native.Mathlib.Omega.{arith}
+use lib.ListN.{get_or}
 use borrow.Author.Tests.{not-true, not-false, le-leb, lt-leb}
 use Rattle.columns.specs.Column.{fields}
 use Rattle.grammar.specs.Refusal.{Checked, refused, accepted, checked}
 use Rattle.grammar.specs.Rule.{within, unused}
 use Rattle.grammar.specs.Sheet.{line_at, header_out, condition}
 use Rattle.grammar.specs.Reading.{numbers_of, header_found}
-use Rattle.grammar.specs.declared.sheet.Line.{Line}
+use Rattle.std.specs.Prelude.{Option as Maybe}
 
 -- The line whose fields were read.
-pub line_read : (s : List ℕ) (line : ℕ) {at : ℕ} {r variant : Line} → at ≡ 26 * (line - 1) → numbers_of r ≡ fields 5 5 s at → r ≡ variant → line_at s line ≡ numbers_of variant
+pub line_read : (s : List ℕ) (line : ℕ) {at : ℕ} {r variant : Maybe (List ℕ)} → at ≡ 26 * (line - 1) → numbers_of r ≡ fields 5 5 s at → r ≡ variant → line_at s line ≡ numbers_of variant
 unfolding line_at
 line_read s line p e f = sym (ap (fields 5 5 s) p) ∙ sym e ∙ ap numbers_of f
 
@@ -35,9 +36,10 @@ byte_without x h = rw (le-leb 0 x (omega arith), lt-leb x 255 h)
 abbrev header_by : (a b c d e : Bool) → List ℕ → Checked (List ℕ)
 header_by a b c d e xs = cond (not (a && b && c && d && e)) (refused 3 1) (accepted xs)
 
-pub header_found_law : (s : List ℕ) {v start endmarker x y : ℕ} {a b c d e : Bool} → line_at s 1 ≡ some (v ∷ start ∷ endmarker ∷ x ∷ y ∷ [])
-    → within 1 256 v ≡ a → within 1 v start ≡ b → within 0 255 endmarker ≡ c → unused x ≡ d → unused y ≡ e
-    → header_by a b c d e (v ∷ start ∷ endmarker ∷ []) ≡ header_found s
+pub header_found_law : (s : List ℕ) {xs : List ℕ} {a b c d e : Bool} → line_at s 1 ≡ some xs
+    → within 1 256 (get_or xs 0 0) ≡ a → within 1 (get_or xs 0 0) (get_or xs 1 0) ≡ b → within 0 255 (get_or xs 2 0) ≡ c
+    → unused (get_or xs 3 0) ≡ d → unused (get_or xs 4 0) ≡ e
+    → header_by a b c d e (get_or xs 0 0 ∷ get_or xs 1 0 ∷ get_or xs 2 0 ∷ []) ≡ header_found s
 unfolding header_found checked condition header_out
 header_found_law s line p q r t u = rw line (rw (p, q, r, t, u))
 

@@ -1,4 +1,5 @@
 -- Laws of rule sheets.
+pub mod HandedOn
 pub mod Refusals
 pub mod Ends
 pub mod Header

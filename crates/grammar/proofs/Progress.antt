@@ -61,8 +61,8 @@ line_accepted s n A w e =
     let i = not_out s n (accepted_none (condition s) (line_order n) _ (A ∷ w ∷ []) (sym e)).1.0 in
     record { variable_is = u; variable_in = (omega arith, omega arith); word_is = cc; onward = λ k. remaining_more s n k ∙ rw (← e) }
 
-pub line_refused : (s : List ℕ) (n x k : ℕ) → refused x n ≡ line_found s n → refused x n ≡ remaining s n (suc k)
-line_refused s n x k e = sym (remaining_more s n k ∙ rw (← e))
+pub line_refused : (s : List ℕ) (n x l k : ℕ) → refused x l ≡ line_found s n → refused x l ≡ remaining s n (suc k)
+line_refused s n x l k e = sym (remaining_more s n k ∙ rw (← e))
 
 -- ---- The beginning, a step, and the end.
 

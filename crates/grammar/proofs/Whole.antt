@@ -13,7 +13,9 @@ use Rattle.grammar.specs.Sheet.{lines, variables_of, start_of, endmarker_of, num
 use Rattle.grammar.specs.Words.{words}
 use Rattle.grammar.specs.Reading.{header_found, rules_found}
 use Rattle.grammar.specs.Promise.{told, SheetPromise}
-use Rattle.grammar.specs.declared.sheet.Sheet.{Sheet}
+use Rattle.std.specs.Prelude.{Result}
+use Rattle.grammar.specs.declared.refusal.Refusal.{Refusal}
+use Rattle.grammar.specs.declared.sheet.Grammar.{Grammar as Header}
 use Rattle.grammar.proofs.Refusals.{then, accepted_same, accepted_none, checked_then, checked_whatever}
 use Rattle.grammar.proofs.Fitting.{within_bounds}
 
@@ -92,8 +94,8 @@ sheet_parts s n =
     (checked_then (condition s) header_order (rule_order 2 (lines s - 1)) _ (grammar_of s)
     ∙ ap (then (header_found s)) (checked_whatever (condition s) (rule_order 2 (lines s - 1)) tt (grammar_of s)))
 
-pub sheet_header_refused : (s : List ℕ) (x : ℕ) → false ≡ not_lines s → refused x 1 ≡ header_found s → sheet s ≡ refused x 1
-sheet_header_refused s x n e = sheet_parts s n ∙ rw (← e)
+pub sheet_header_refused : (s : List ℕ) (x l : ℕ) → false ≡ not_lines s → refused x l ≡ header_found s → sheet s ≡ refused x l
+sheet_header_refused s x l n e = sheet_parts s n ∙ rw (← e)
 
 pub sheet_rules_refused : (s : List ℕ) {v start endmarker x l : ℕ} → false ≡ not_lines s → HeaderRead s v start endmarker → refused x l ≡ rules_found s
     → sheet s ≡ refused x l
@@ -110,9 +112,9 @@ header_says_law s h = rw (h.variables_are, h.start_is, h.endmarker_is)
 
 -- ---- The reader's promise, by what the sheet is.
 
-pub promise_refused : (s before after : List ℕ) (r : Sheet) (x l : ℕ) → sheet s ≡ refused x l → told r ≡ refused x l → after ≡ before → SheetPromise s before after r
+pub promise_refused : (s before after : List ℕ) (r : Result Header Refusal) (x l : ℕ) → sheet s ≡ refused x l → told r ≡ refused x l → after ≡ before → SheetPromise s before after r
 promise_refused s before after r x l e t a = record { says = rw e t; stores = rw e a }
 
-pub promise_accepted : (s before after : List ℕ) (r : Sheet) → sheet s ≡ accepted (grammar_of s) → told r ≡ accepted (variables_of s ∷ start_of s ∷ endmarker_of s ∷ [])
+pub promise_accepted : (s before after : List ℕ) (r : Result Header Refusal) → sheet s ≡ accepted (grammar_of s) → told r ≡ accepted (variables_of s ∷ start_of s ∷ endmarker_of s ∷ [])
     → after ≡ words (rule_within s (lines s - 1)) → SheetPromise s before after r
 promise_accepted s before after r e t a = record { says = rw e t; stores = rw e a }

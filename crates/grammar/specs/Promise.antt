@@ -1,15 +1,16 @@
 -- The promise of the sheet reader. Assumes nothing.
-use Rattle.std.specs.Prelude.{List, [], ◌∷◌, ◌≡◌, ℕ}
+use Rattle.std.specs.Prelude.{List, [], ◌∷◌, ◌≡◌, ℕ, Result, Ok, Err}
 use Rattle.grammar.specs.Refusal.{Checked, refused, accepted}
 use Rattle.grammar.specs.Sheet.{Grammar, sheet}
 use Rattle.grammar.specs.Words.{words}
-use Rattle.grammar.specs.declared.sheet.Sheet.{Sheet}
-use Rattle.grammar.specs.declared.sheet.Sheet.TheVariants.{Read, Refused}
+use Rattle.grammar.specs.Numbers.{number_of, line_of}
+use Rattle.grammar.specs.declared.refusal.Refusal.{Refusal}
+use Rattle.grammar.specs.declared.sheet.Grammar.{Grammar as Header}
 
 -- What each case of the answer says: V, the start variable and the endmarker byte; or "its number and a line".
-abbrev pub told : Sheet → Checked (List ℕ)
-told (Read g) = accepted (g.variables ∷ g.start ∷ g.endmarker ∷ [])
-told (Refused number line) = refused number line
+abbrev pub told : Result Header Refusal → Checked (List ℕ)
+told (Ok g) = accepted (g.variables ∷ g.start ∷ g.endmarker ∷ [])
+told (Err e) = refused (number_of e) (line_of e)
 
 -- Line 1 of an accepted sheet, or the refusal.
 abbrev pub line_one : Checked Grammar → Checked (List ℕ)
@@ -22,6 +23,6 @@ stored (refused number line) before = before
 stored (accepted g) before = words g.rule
 
 -- What the sheet reader promises: its answer, and the array.
-pub record SheetPromise (s before after : List ℕ) (r : Sheet) : Type 0 where
+pub record SheetPromise (s before after : List ℕ) (r : Result Header Refusal) : Type 0 where
   pub says : told r ≡ line_one (sheet s)
   pub stores : after ≡ stored (sheet s) before

@@ -1,48 +1,34 @@
 -- What the steps of reading a sheet find. Assumes nothing.
-use Rattle.std.specs.Prelude.{cond, List, [], ◌∷◌, ◌≡◌, ℕ, ◌+◌, ◌-◌, ◌≤◌}
+use Rattle.std.specs.Prelude.{cond, List, [], ◌∷◌, ◌≡◌, ℕ, ◌+◌, ◌-◌, ◌≤◌, Result, Ok, Err, Option as Maybe, Some, None}
 use Rattle.std.proofs.Math.Option.{Option, none, some, get_or}
 use Rattle.grammar.specs.Refusal.{Checked, refused, accepted, checked}
 use Rattle.grammar.specs.Rule.{absent, within}
 use Rattle.grammar.specs.Sheet.{lines, variables_of, start_of, endmarker_of, variable_at, variable_before, rule_at, rule_within, condition, header_order, line_order, rule_order}
 use Rattle.grammar.specs.Words.{four_bytes, word, words}
-use Rattle.grammar.specs.declared.sheet.Line.{Line}
-use Rattle.grammar.specs.declared.sheet.Line.TheVariants.{Numbers, Malformed}
-use Rattle.grammar.specs.declared.sheet.Fitting.{Fitting}
-use Rattle.grammar.specs.declared.sheet.Fitting.TheVariants.{Word, Unfit}
-use Rattle.grammar.specs.declared.sheet.Header.{Header}
-use Rattle.grammar.specs.declared.sheet.Header.TheVariants as header
-use Rattle.grammar.specs.declared.sheet.RuleLine.{RuleLine}
-use Rattle.grammar.specs.declared.sheet.RuleLine.TheVariants as line
-use Rattle.grammar.specs.declared.sheet.RuleLines.{RuleLines}
-use Rattle.grammar.specs.declared.sheet.RuleLines.TheVariants as rules
+use Rattle.grammar.specs.Numbers.{checked_as}
+use Rattle.grammar.specs.declared.refusal.Refusal.{Refusal}
 
 -- The numbers of a line.
-abbrev pub numbers_of : Line → Option (List ℕ)
-numbers_of (Numbers a b c d e) = some (a ∷ b ∷ c ∷ d ∷ e ∷ [])
-numbers_of Malformed = none
+abbrev pub numbers_of : Maybe (List ℕ) → Option (List ℕ)
+numbers_of (Some numbers) = some numbers
+numbers_of None = none
 
 -- The word of a rule that fits.
-abbrev pub word_of : Fitting → Option ℕ
-word_of (Word w) = some w
-word_of Unfit = none
+abbrev pub word_of : Maybe ℕ → Option ℕ
+word_of (Some w) = some w
+word_of None = none
 
 -- The word of a rule with one operand at most.
 abbrev pub leaf_word : ℕ → ℕ → ℕ → ℕ → Option ℕ
 leaf_word kind least greatest x = cond (within least greatest x) (some (four_bytes (kind + 1) x 0 0)) none
 
--- "line 1 for 2, 3"
-abbrev pub header_says : Header → Checked (List ℕ)
-header_says (header.Read g) = accepted (g.variables ∷ g.start ∷ g.endmarker ∷ [])
-header_says (header.Refused number) = refused number 1
-
--- The first refusal of line 1, or its numbers.
+-- "line 1 for 2, 3": the first refusal of line 1, or its numbers.
 unfoldable pub header_found : List ℕ → Checked (List ℕ)
 header_found s = checked (condition s) header_order (variables_of s ∷ start_of s ∷ endmarker_of s ∷ [])
 
 -- "each next line for 2, 4, 5": the variable of a line and the word of its rule.
-abbrev pub line_says : ℕ → RuleLine → Checked (List ℕ)
-line_says n (line.Rule A w) = accepted (A ∷ w ∷ [])
-line_says n (line.Refused number) = refused number n
+abbrev pub line_says : Result (ℕ × ℕ) Refusal → Checked (List ℕ)
+line_says = checked_as (λ r. r.0 ∷ r.1 ∷ [])
 
 -- The first refusal of a rule line, or its variable and word.
 unfoldable pub line_found : List ℕ → ℕ → Checked (List ℕ)
@@ -57,18 +43,17 @@ pub record Before (s : List ℕ) (n variables before : ℕ) : Type 0 where
   pub before_is : before ≡ variable_before s n
 
 -- All rule lines.
-abbrev pub rules_say : RuleLines → Checked (Unit {0})
-rules_say rules.Read = accepted tt
-rules_say (rules.Refused number n) = refused number n
+abbrev pub rules_say : Result (Unit {0}) Refusal → Checked (Unit {0})
+rules_say = checked_as (λ u. tt)
 
 -- The first refusal of the rule lines.
 unfoldable pub rules_found : List ℕ → Checked (Unit {0})
 rules_found s = checked (condition s) (rule_order 2 (lines s - 1)) tt
 
 -- The array after the rule lines; free where one is refused.
-abbrev pub Stored : List ℕ → RuleLines → List ℕ → Type 0
-Stored s rules.Read after = after ≡ words (rule_within s (lines s - 1))
-Stored s (rules.Refused number n) after = Unit {0}
+abbrev pub Stored : List ℕ → Result (Unit {0}) Refusal → List ℕ → Type 0
+Stored s (Ok u) after = after ≡ words (rule_within s (lines s - 1))
+Stored s (Err e) after = Unit {0}
 
 -- What is known before the rule lines are read.
 pub record Ready (s : List ℕ) (variables count : ℕ) (before : List ℕ) : Type 0 where

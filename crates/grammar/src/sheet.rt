@@ -5,66 +5,25 @@ ghost use Rattle.columns.specs.Column.{fields};
 ghost use Rattle.grammar.specs.Rule.{rule_of};
 ghost use Rattle.grammar.specs.Words.{four_bytes, word};
 ghost use Rattle.grammar.specs.Sheet.{not_lines, open_line};
-ghost use Rattle.grammar.specs.Reading.{numbers_of, word_of, leaf_word, header_says, header_found, line_says, line_found, Before, rules_say, rules_found, Ready, Stored};
-ghost use Rattle.grammar.specs.Promise.{SheetPromise};
+ghost use Rattle.grammar.specs.Reading.{numbers_of, word_of, leaf_word, header_found, line_says, line_found, Before, rules_say, rules_found, Ready, Stored};
+ghost use Rattle.grammar.specs.Promise.{told, SheetPromise};
 
+use crate::refusal::Refusal;
 use columns::{Cursor, Field};
 
 // The words of the rules of variables 1 to 256.
 pub type Rules = [u32; 256];
 
 // Line 1 of a sheet: the count of variables, the start variable and the endmarker byte.
-#[derive(Drop)]
+#[derive(Clone, Copy)]
 pub struct Grammar {
     pub variables: u32,
     pub start: u32,
     pub endmarker: u32,
 }
 
-// What reading a sheet gives: a grammar, or the number and the line of a refusal.
-#[derive(Drop)]
-pub enum Sheet {
-    Read(Grammar),
-    Refused(u32, u32),
-}
-
-// The five numbers of a line, or that a field is not of the form.
-#[derive(Drop)]
-enum Line {
-    Numbers(u32, u32, u32, u32, u32),
-    Malformed,
-}
-
-// The word of a rule, or that the kind or an operand does not fit.
-#[derive(Drop)]
-enum Fitting {
-    Word(u32),
-    Unfit,
-}
-
-// Line 1, or the number of its refusal.
-#[derive(Drop)]
-enum Header {
-    Read(Grammar),
-    Refused(u32),
-}
-
-// The variable and the word of a rule line, or the number of its refusal.
-#[derive(Drop)]
-enum RuleLine {
-    Rule(u32, u32),
-    Refused(u32),
-}
-
-// All rule lines, or the number and the line of a refusal.
-#[derive(Drop)]
-enum RuleLines {
-    Read,
-    Refused(u32, u32),
-}
-
 // The five fields of a line, one after another.
-fn read_fields(line: &[u8]) -> Line
+fn read_fields(line: &[u8]) -> Option<[u32; 5]>
     ensures { numbers_of result ≡ fields 5 5 line.now 0 }
 {
     let mut numbers = [0u32; 5];
@@ -72,24 +31,24 @@ fn read_fields(line: &[u8]) -> Line
     let mut k: usize = 0;
     while k < 5 {
         let Field::Number(x, next) = here.five(line) else {
-            return Line::Malformed;
+            return None;
         };
         numbers[k] = x;
         here = next;
         k += 1;
     }
-    Line::Numbers(numbers[0], numbers[1], numbers[2], numbers[3], numbers[4])
+    Some(numbers)
 }
 
 // The fields of the line that begins at a position. They are read from a part of 25 columns, so that the compiler knows them to be there.
-fn read_line(s: &[u8], at: usize) -> Line
+fn read_line(s: &[u8], at: usize) -> Option<[u32; 5]>
     ensures { numbers_of result ≡ fields 5 5 s.now at }
 {
     if s.len() < 25 {
-        return Line::Malformed;
+        return None;
     }
     if s.len() - 25 < at {
-        return Line::Malformed;
+        return None;
     }
     read_fields(&s[at..at + 25])
 }
@@ -126,28 +85,29 @@ fn not_lines(s: &[u8]) -> bool
 }
 
 // Line 1, for refusals 2 and 3.
-fn read_header(s: &[u8]) -> Header
-    ensures { header_says result ≡ header_found s.now }
+fn read_header(s: &[u8]) -> Result<Grammar, Refusal>
+    ensures { told result ≡ header_found s.now }
 {
-    let Line::Numbers(variables, start, endmarker, fourth, fifth) = read_line(s, 0) else {
-        return Header::Refused(2);
+    let Some(numbers) = read_line(s, 0) else {
+        return Err(Refusal::Field(1));
     };
+    let [variables, start, endmarker, fourth, fifth] = numbers;
     if !within(1, 256, variables) {
-        return Header::Refused(3);
+        return Err(Refusal::Header);
     }
     if !within(1, variables, start) {
-        return Header::Refused(3);
+        return Err(Refusal::Header);
     }
     if 255 < endmarker {
-        return Header::Refused(3);
+        return Err(Refusal::Header);
     }
     if fourth != 0 {
-        return Header::Refused(3);
+        return Err(Refusal::Header);
     }
     if fifth != 0 {
-        return Header::Refused(3);
+        return Err(Refusal::Header);
     }
-    Header::Read(Grammar {
+    Ok(Grammar {
         variables,
         start,
         endmarker,
@@ -173,35 +133,35 @@ fn pack(a: u32, b: u32, c: u32, d: u32) -> u32
 }
 
 // The word of a rule with one operand at most: its least and its greatest value are given.
-fn leaf_word(kind: u32, least: u32, greatest: u32, x: u32) -> Fitting
+fn leaf_word(kind: u32, least: u32, greatest: u32, x: u32) -> Option<u32>
     requires { (kind ≤ 3) × (greatest ≤ 255) }
     ensures { word_of result ≡ leaf_word kind least greatest x }
 {
     if !within(least, greatest, x) {
-        return Fitting::Unfit;
+        return None;
     }
-    Fitting::Word(pack(kind + 1, x, 0, 0))
+    Some(pack(kind + 1, x, 0, 0))
 }
 
 // The word of a rule that calls x, y and z, of v variables.
-fn call_word(v: u32, x: u32, y: u32, z: u32) -> Fitting
+fn call_word(v: u32, x: u32, y: u32, z: u32) -> Option<u32>
     requires { v ≤ 256 }
     ensures { word_of result ≡ map word (rule_of v 4 x y z) }
 {
     if !within(1, v, x) {
-        return Fitting::Unfit;
+        return None;
     }
     if !within(1, v, y) {
-        return Fitting::Unfit;
+        return None;
     }
     if !within(1, v, z) {
-        return Fitting::Unfit;
+        return None;
     }
-    Fitting::Word(pack(5, x - 1, y - 1, z - 1))
+    Some(pack(5, x - 1, y - 1, z - 1))
 }
 
 // The word of a rule of v variables: its kind, and its operands.
-fn rule_word(v: u32, kind: u32, x: u32, y: u32, z: u32) -> Fitting
+fn rule_word(v: u32, kind: u32, x: u32, y: u32, z: u32) -> Option<u32>
     requires { v ≤ 256 }
     ensures { word_of result ≡ map word (rule_of v kind x y z) }
 {
@@ -209,10 +169,10 @@ fn rule_word(v: u32, kind: u32, x: u32, y: u32, z: u32) -> Fitting
         return call_word(v, x, y, z);
     }
     if y != 0 {
-        return Fitting::Unfit;
+        return None;
     }
     if z != 0 {
-        return Fitting::Unfit;
+        return None;
     }
     if kind == 0 {
         return leaf_word(0, 0, 0, x);
@@ -226,71 +186,56 @@ fn rule_word(v: u32, kind: u32, x: u32, y: u32, z: u32) -> Fitting
     if kind == 3 {
         return leaf_word(3, 1, 6, x);
     }
-    Fitting::Unfit
+    None
 }
 
-// A rule line after the variable of the line before, for refusals 2, 4 and 5.
-fn read_rule(s: &[u8], line: usize, variables: u32, before: u32) -> RuleLine
+// A rule line after the variable of the line before, for refusals 2, 4 and 5: its variable, and the word of its rule.
+fn read_rule(s: &[u8], line: u32, variables: u32, before: u32) -> Result<(u32, u32), Refusal>
     requires { Before s.now line variables before }
-    ensures { line_says line result ≡ line_found s.now line }
+    ensures { line_says result ≡ line_found s.now line }
 {
-    let Line::Numbers(variable, kind, x, y, z) = read_line(s, 26 * (line - 1)) else {
-        return RuleLine::Refused(2);
+    let Some(numbers) = read_line(s, 26 * (line as usize - 1)) else {
+        return Err(Refusal::Field(line));
     };
+    let [variable, kind, x, y, z] = numbers;
     if !within(1, variables, variable) {
-        return RuleLine::Refused(4);
+        return Err(Refusal::RuleVariable(line));
     }
     if variable <= before {
-        return RuleLine::Refused(4);
+        return Err(Refusal::RuleVariable(line));
     }
     match rule_word(variables, kind, x, y, z) {
-        Fitting::Word(word) => RuleLine::Rule(variable, word),
-        Fitting::Unfit => RuleLine::Refused(5),
+        Some(word) => Ok((variable, word)),
+        None => Err(Refusal::Rule(line)),
     }
 }
 
 // The rule lines of a sheet of so many lines, each rule at its variable's place.
-fn read_rules(s: &[u8], variables: u32, count: usize, rules: &mut Rules) -> RuleLines
+fn read_rules(s: &[u8], variables: u32, count: u32, rules: &mut Rules) -> Result<(), Refusal>
     requires { Ready s.now variables count rules.old }
     ensures result_value { rules_say result ≡ rules_found s.now }
     ensures stored { Stored s.now result rules.new }
 {
-    let mut line: usize = 2;
     let mut before: u32 = 0;
-    while line <= count {
-        match read_rule(s, line, variables, before) {
-            RuleLine::Rule(variable, word) => {
-                rules[variable as usize - 1] = word;
-                before = variable;
-            }
-            RuleLine::Refused(number) => {
-                return RuleLines::Refused(number, line as u32);
-            }
-        }
-        line += 1;
+    for line in 2..count + 1 {
+        let (variable, word) = read_rule(s, line, variables, before)?;
+        rules[variable as usize - 1] = word;
+        before = variable;
     }
-    RuleLines::Read
+    Ok(())
 }
 
 // The grammar of a sheet, its rules in the lent array; or the first refusal, with the array as it was.
-pub fn read_sheet(s: &[u8], rules: &mut Rules) -> Sheet
+pub fn read_sheet(s: &[u8], rules: &mut Rules) -> Result<Grammar, Refusal>
     ensures { SheetPromise s.now rules.old rules.new result }
 {
     if not_lines(s) {
-        return Sheet::Refused(1, 0);
+        return Err(Refusal::NotLines);
     }
-    match read_header(s) {
-        Header::Refused(number) => Sheet::Refused(number, 1),
-        Header::Read(grammar) => {
-            let mut fresh = [0u32; 256];
-            let variables = grammar.variables;
-            match read_rules(s, variables, s.len() / 26, &mut fresh) {
-                RuleLines::Refused(number, line) => Sheet::Refused(number, line),
-                RuleLines::Read => {
-                    *rules = fresh;
-                    Sheet::Read(grammar)
-                }
-            }
-        }
-    }
+    let grammar = read_header(s)?;
+    let mut fresh = [0u32; 256];
+    let count = (s.len() / 26) as u32;
+    read_rules(s, grammar.variables, count, &mut fresh)?;
+    *rules = fresh;
+    Ok(grammar)
 }

@@ -2,7 +2,7 @@ use mathlib.Core.Option.{some}
 use mathlib.Core.Path.{refl, sym, ap, ◌∙◌}
 use Prim.Native.Nat.{◌-◌}
 use native.Mathlib.Omega.{arith}
-use Rattle.columns.proofs.Parts.{Reading, starts, stops, reads_on, all_read, five_of_law}
+use Rattle.columns.proofs.Parts.{Reading, starts, stops, reads_on, all_read}
 use borrow.Author.Rules.{rules}
 use Rattle.grammar.proofs.sheet.read_fields.Goals as goal
 
@@ -18,4 +18,4 @@ loop-k-preserved c = reads_on 5 5 _ c.loop-k.invariant (omega arith) c.five.ensu
 pub returns : goal.returns
 returns c =
     let L = c.loop-k in
-    ap some (five_of_law L.numbers L.invariant.room) ∙ sym (all_read 5 5 _ L.invariant (omega arith))
+    sym (all_read 5 5 _ L.invariant (omega arith))

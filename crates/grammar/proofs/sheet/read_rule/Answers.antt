@@ -11,23 +11,23 @@ returns-in_default c = malformed_line _ _ (line_read _ _ refl c.read_line.ensure
 pub returns-then-not-within : goal.returns-then-not-within
 returns-then-not-within c =
     let pre = c.requires in
-    line_found_law _ _ (line_read _ _ refl c.read_line.ensures c.in-Numbers.is) pre.variables_are pre.before_is
+    line_found_law _ _ (line_read _ _ refl c.read_line.ensures c.in-Some.is) pre.variables_are pre.before_is
     (fails c.within.ensures c.if-not-within.true-raw) refl refl
 
 pub returns-then-variable-before : goal.returns-then-variable-before
 returns-then-variable-before c =
     let pre = c.requires in
-    line_found_law _ _ (line_read _ _ refl c.read_line.ensures c.in-Numbers.is) pre.variables_are pre.before_is
+    line_found_law _ _ (line_read _ _ refl c.read_line.ensures c.in-Some.is) pre.variables_are pre.before_is
     (passes c.within.ensures c.if-not-within.false-raw) (le-leb _ _ c.if-variable-before.true) refl
 
-pub returns-in-Word : goal.returns-in-Word
-returns-in-Word c =
+pub returns-in-Some-rule_word : goal.returns-in-Some-rule_word
+returns-in-Some-rule_word c =
     let pre = c.requires in
-    rule_found _ _ (line_read _ _ refl c.read_line.ensures c.in-Numbers.is) pre.variables_are pre.before_is
-    (passes c.within.ensures c.if-not-within.false-raw) (lt-leb _ _ c.if-variable-before.false) c.rule_word.ensures c.in-Word.is
+    rule_found _ _ (line_read _ _ refl c.read_line.ensures c.in-Some.is) pre.variables_are pre.before_is
+    (passes c.within.ensures c.if-not-within.false-raw) (lt-leb _ _ c.if-variable-before.false) c.rule_word.ensures c.in-Some-rule_word.is
 
-pub returns-in-Unfit : goal.returns-in-Unfit
-returns-in-Unfit c =
+pub returns-in-None : goal.returns-in-None
+returns-in-None c =
     let pre = c.requires in
-    rule_found _ _ (line_read _ _ refl c.read_line.ensures c.in-Numbers.is) pre.variables_are pre.before_is
-    (passes c.within.ensures c.if-not-within.false-raw) (lt-leb _ _ c.if-variable-before.false) c.rule_word.ensures c.in-Unfit.is
+    rule_found _ _ (line_read _ _ refl c.read_line.ensures c.in-Some.is) pre.variables_are pre.before_is
+    (passes c.within.ensures c.if-not-within.false-raw) (lt-leb _ _ c.if-variable-before.false) c.rule_word.ensures c.in-None.is
