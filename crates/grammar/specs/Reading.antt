@@ -1,7 +1,7 @@
 -- What the steps of reading a sheet find. Assumes nothing.
 use Rattle.std.specs.Prelude.{cond, List, [], ◌∷◌, ◌≡◌, ℕ, ◌+◌, ◌-◌, ◌≤◌, Result, Ok, Err, Option as Maybe, Some, None}
 use Rattle.std.proofs.Math.Option.{Option, none, some, get_or}
-use Rattle.grammar.specs.Refusal.{Checked, refused, accepted, checked}
+use Rattle.grammar.specs.Refusal.{Checked, checked}
 use Rattle.grammar.specs.Rule.{absent, within}
 use Rattle.grammar.specs.Sheet.{lines, variables_of, start_of, endmarker_of, variable_at, variable_before, rule_at, rule_within, condition, header_order, line_order, rule_order}
 use Rattle.grammar.specs.Words.{four_bytes, word, words}

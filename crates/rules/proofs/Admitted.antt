@@ -5,13 +5,14 @@ use mathlib.Core.Path.{◌≡◌, refl, sym, ap, ◌∙◌}
 use Prim.Native.Nat.{ℕ, ◌≤◌}
 use lib.ListN.{length}
 use borrow.Author.Tests.{le-ltb}
+use Rattle.std.specs.Prelude.{Result, Ok, Err}
+use Rattle.grammar.specs.Numbers.{number_of, line_of}
 use Rattle.grammar.specs.Promise.{told, line_one, stored}
 use Rattle.grammar.specs.Refusal.{Checked, refused, accepted}
 use Rattle.grammar.specs.Sheet.{Grammar, sheet}
 use Rattle.grammar.specs.Words.{rule_in}
 use Rattle.grammar.specs.declared.sheet.Grammar.{Grammar as Line}
-use Rattle.grammar.specs.declared.sheet.Sheet.{Sheet}
-use Rattle.grammar.specs.declared.sheet.Sheet.TheVariants.{Read, Refused}
+use Rattle.grammar.specs.declared.refusal.Refusal.{Refusal}
 use Rattle.grammar.proofs.Accepted.{grammar_in_range}
 use Rattle.grammar.proofs.Fitting.{within_both}
 use Rattle.grammar.proofs.Held.{rules_held}
@@ -24,12 +25,12 @@ use Rattle.schema.proofs.Tested.{asked_by}
 use Rattle.schema.proofs.Handed.{handed_sheet, handed_input, handed_pair}
 
 -- The promise, from what the call comes to.
-pub admits : (s : List ℕ) (h : Handed) (before after : List ℕ) (r : Sheet) {o : Checked Grammar} → after ≡ stored (sheet s) before → handed s h ≡ o
+pub admits : (s : List ℕ) (h : Handed) (before after : List ℕ) (r : Result Line Refusal) {o : Checked Grammar} → after ≡ stored (sheet s) before → handed s h ≡ o
     → told r ≡ line_one o → Admits s h before after r
 admits s h before after r e f t = record { says = t ∙ ap line_one (sym f); stores = e }
 
 -- Of any call: the array holds the rules of the grammar that is accepted,
-pub rules_admitted : (s : List ℕ) (h : Handed) (before after : List ℕ) (r : Sheet) → Admits s h before after r → (g : Grammar) → handed s h ≡ accepted g
+pub rules_admitted : (s : List ℕ) (h : Handed) (before after : List ℕ) (r : Result Line Refusal) → Admits s h before after r → (g : Grammar) → handed s h ≡ accepted g
     → rule_in after ≡ g.rule
 rules_admitted s h before after r a g e =
     let q : sheet s ≡ accepted g = handed_sheet s h g e in
@@ -45,9 +46,9 @@ pub record Admitted (s input : List ℕ) (A p : ℕ) (after : List ℕ) (l : Lin
   pub pair_within : Within grammar.variables (length input) A p
   pub input_short : length input ≤ 4096
 
-module _ (s input : List ℕ) (A p : ℕ) (before after : List ℕ) (r : Sheet) (a : Admission s input A p before after r) where
+module _ (s input : List ℕ) (A p : ℕ) (before after : List ℕ) (r : Result Line Refusal) (a : Admission s input A p before after r) where
   -- An accepted question.
-  pub admitted : (l : Line) → r ≡ Read l → Admitted s input A p after l
+  pub admitted : (l : Line) → r ≡ Ok l → Admitted s input A p after l
   admitted l e =
       let t = told_read (handed s (asked input (A at p))) r l a.says e in
       let g = t.grammar in
@@ -63,8 +64,8 @@ module _ (s input : List ℕ) (A p : ℕ) (before after : List ℕ) (r : Sheet) 
       }
 
   -- A refused one.
-  pub not_admitted : (x l : ℕ) → r ≡ Refused x l → handed s (asked input (A at p)) ≡ refused x l
-  not_admitted x l e = told_refused (handed s (asked input (A at p))) r x l a.says e
+  pub not_admitted : (n : Refusal) → r ≡ Err n → handed s (asked input (A at p)) ≡ refused (number_of n) (line_of n)
+  not_admitted n e = told_refused (handed s (asked input (A at p))) r n a.says e
 
 -- Where a call about a pair is accepted, so is the question about it, which is handed no more than the pair.
 pub question_accepted : (s : List ℕ) (h : Handed) (g : Grammar) (A p : ℕ) → handed s h ≡ accepted g → h.pair ≡ some (A at p)

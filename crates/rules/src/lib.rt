@@ -10,7 +10,8 @@ ghost use Rattle.rules.specs.Act.{told};
 ghost use Rattle.rules.specs.Admission.{Admission};
 
 use classes::class_of;
-use grammar::sheet::{Rules, Sheet, read_sheet};
+use grammar::refusal::Refusal;
+use grammar::sheet::{Grammar, Rules, read_sheet};
 
 // What a rule does at a position: success ending at a position, failure, missing where the variable has no rule, or a call of three variables.
 #[derive(Drop)]
@@ -105,26 +106,27 @@ pub fn second_of(rules: &Rules, variable: u32, flag: bool) -> u32
 
 // The grammar of a sheet, its rules in the lent array, for a question about an input, a variable and a position; or the first of refusals
 // 1 to 6, 8 and 9.
-pub fn admit(sheet: &[u8], input: &[u8], variable: u32, position: u32, rules: &mut Rules) -> Sheet
+pub fn admit(
+    sheet: &[u8],
+    input: &[u8],
+    variable: u32,
+    position: u32,
+    rules: &mut Rules,
+) -> Result<Grammar, Refusal>
     ensures { Admission sheet.now input.now variable position rules.old rules.new result }
 {
-    let read = read_sheet(sheet, rules);
-    match read {
-        Sheet::Refused(number, line) => Sheet::Refused(number, line),
-        Sheet::Read(grammar) => {
-            if 4096 < input.len() {
-                return Sheet::Refused(6, 0);
-            }
-            if variable < 1 {
-                return Sheet::Refused(8, 0);
-            }
-            if grammar.variables < variable {
-                return Sheet::Refused(8, 0);
-            }
-            if input.len() < position as usize {
-                return Sheet::Refused(9, 0);
-            }
-            Sheet::Read(grammar)
-        }
+    let grammar = read_sheet(sheet, rules)?;
+    if 4096 < input.len() {
+        return Err(Refusal::LongEntry);
     }
+    if variable < 1 {
+        return Err(Refusal::Variable);
+    }
+    if grammar.variables < variable {
+        return Err(Refusal::Variable);
+    }
+    if input.len() < position as usize {
+        return Err(Refusal::Place);
+    }
+    Ok(grammar)
 }

@@ -1,5 +1,4 @@
 use borrow.Author.Tests.{le-ltb, lt-ltb, eq-eqb, ne_eqb}
-use borrow.Author.Rules.{rules}
 use Rattle.rules.proofs.one_byte.Goals as goal
 
 -- `one_byte` does what a rule of kind 2 or 3 does. Assumes nothing.

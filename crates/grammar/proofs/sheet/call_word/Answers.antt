@@ -3,7 +3,6 @@ use mathlib.Core.Option.{some}
 use native.Mathlib.Omega.{arith}
 use Rattle.grammar.proofs.Header.{fails, passes}
 use Rattle.grammar.proofs.Fitting.{within_bounds, call_fits}
-use borrow.Author.Rules.{rules}
 use Rattle.grammar.proofs.sheet.call_word.Goals as goal
 
 pub returns-then-not-within : goal.returns-then-not-within

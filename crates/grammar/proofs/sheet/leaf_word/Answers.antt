@@ -1,7 +1,6 @@
 use native.Mathlib.Omega.{arith}
 use Rattle.grammar.proofs.Header.{fails, passes}
 use Rattle.grammar.proofs.Fitting.{within_bounds}
-use borrow.Author.Rules.{rules}
 use Rattle.grammar.proofs.sheet.leaf_word.Goals as goal
 
 pub returns-then-not-within : goal.returns-then-not-within

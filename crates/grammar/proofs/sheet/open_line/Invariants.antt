@@ -1,10 +1,7 @@
-use mathlib.Core.Path.{◌≡◌, sym, ◌∙◌, ap}
+use mathlib.Core.Path.{◌≡◌}
 use mathlib.Core.Bool.{false}
 use Prim.Native.Nat.{◌≤◌, ◌-◌}
-use native.Mathlib.Omega.{arith}
 use Rattle.grammar.specs.Sheet.{open_line}
-use Rattle.grammar.proofs.Ends.{no_lines, line_ended, open_found}
-use borrow.Author.Rules.{rules}
 use Rattle.grammar.proofs.sheet.open_line.Given as goal
 
 abbrev pub invariant-loop-k : goal.invariant-loop-k

@@ -1,9 +1,6 @@
-use mathlib.Core.Option.{some}
-use mathlib.Core.Path.{refl, sym, ap, ◌∙◌}
-use Prim.Native.Nat.{◌-◌}
+use mathlib.Core.Path.{refl, sym}
 use native.Mathlib.Omega.{arith}
-use Rattle.columns.proofs.Parts.{Reading, starts, stops, reads_on, all_read}
-use borrow.Author.Rules.{rules}
+use Rattle.columns.proofs.Parts.{starts, stops, reads_on, all_read}
 use Rattle.grammar.proofs.sheet.read_fields.Goals as goal
 
 pub loop-k-init : goal.loop-k-init

@@ -1,9 +1,5 @@
-use mathlib.Core.Option.{some}
-use mathlib.Core.Path.{refl, sym, ap, ◌∙◌}
 use Prim.Native.Nat.{◌-◌}
-use native.Mathlib.Omega.{arith}
-use Rattle.columns.proofs.Parts.{Reading, starts, stops, reads_on, all_read, five_of_law}
-use borrow.Author.Rules.{rules}
+use Rattle.columns.proofs.Parts.{Reading}
 use Rattle.grammar.proofs.sheet.read_fields.Given as goal
 
 -- `read_fields` reads five fields one by one. Assumes nothing.

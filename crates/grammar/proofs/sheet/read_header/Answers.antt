@@ -1,7 +1,6 @@
 use mathlib.Core.Path.{refl}
 use borrow.Author.Tests.{eq-eqb, ne_eqb}
 use Rattle.grammar.proofs.Header.{line_read, fails, passes, byte_within, byte_without, header_found_law, malformed_header}
-use borrow.Author.Rules.{rules}
 use Rattle.grammar.proofs.sheet.read_header.Goals as goal
 
 pub returns-in_default : goal.returns-in_default

@@ -1,8 +1,6 @@
 use mathlib.Core.Path.{sym, ◌∙◌}
 use native.Mathlib.Omega.{arith}
-use Rattle.columns.specs.Column.{fields}
 use Rattle.columns.proofs.Parts.{width, fields_within, fields_short}
-use borrow.Author.Rules.{rules}
 use Rattle.grammar.proofs.sheet.read_line.Goals as goal
 
 -- `read_line` reads the five fields of a line, or finds one that is not of the form. Assumes nothing.

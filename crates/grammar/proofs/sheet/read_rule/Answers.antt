@@ -2,7 +2,6 @@ use mathlib.Core.Path.{refl}
 use borrow.Author.Tests.{le-leb, lt-leb}
 use Rattle.grammar.proofs.Header.{line_read, fails, passes}
 use Rattle.grammar.proofs.RuleLine.{line_found_law, rule_found, malformed_line}
-use borrow.Author.Rules.{rules}
 use Rattle.grammar.proofs.sheet.read_rule.Goals as goal
 
 pub returns-in_default : goal.returns-in_default

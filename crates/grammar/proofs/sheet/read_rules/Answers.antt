@@ -1,10 +1,9 @@
 use mathlib.Core.Path.{◌≡◌, sym, ◌∙◌, ap}
 use Prim.Native.Nat.{suc, ◌+◌, ◌-◌}
 use native.Mathlib.Omega.{arith}
-use Rattle.grammar.specs.Reading.{line_says, rules_say}
+use Rattle.grammar.specs.Reading.{rules_say}
 use Rattle.grammar.proofs.HandedOn.{handed_on}
-use Rattle.grammar.proofs.Progress.{Progress, Accepted, remaining, line_accepted, line_refused, begins, goes_on, ends}
-use borrow.Author.Rules.{rules}
+use Rattle.grammar.proofs.Progress.{Accepted, remaining, line_accepted, line_refused, begins, goes_on, ends}
 use Rattle.grammar.proofs.sheet.read_rules.Goals as goal
 
 pub loop-line-init : goal.loop-line-init

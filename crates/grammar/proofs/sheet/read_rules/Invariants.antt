@@ -1,4 +1,3 @@
-use Prim.Native.Nat.{◌+◌}
 use Rattle.grammar.proofs.Progress.{Progress}
 use Rattle.grammar.proofs.sheet.read_rules.Given as goal
 

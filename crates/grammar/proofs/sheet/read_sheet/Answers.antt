@@ -1,11 +1,9 @@
-use mathlib.Core.Path.{refl, sym, ap, ◌∙◌, subst}
+use mathlib.Core.Path.{refl, sym, ap, ◌∙◌}
 use native.Mathlib.Omega.{arith}
 use Rattle.grammar.specs.Promise.{told}
-use Rattle.grammar.specs.Reading.{rules_say, Stored}
 use Rattle.grammar.proofs.HandedOn.{handed_on}
 use Rattle.grammar.proofs.Words.{words_none}
 use Rattle.grammar.proofs.Whole.{lines_whole, header_read, header_in_range, sheet_not_lines, sheet_header_refused, sheet_rules_refused, sheet_accepted, header_says_law, promise_refused, promise_accepted}
-use borrow.Author.Rules.{rules}
 use Rattle.grammar.proofs.sheet.read_sheet.Goals as goal
 
 pub returns-then-not_lines : goal.returns-then-not_lines

@@ -1,7 +1,6 @@
 use mathlib.Core.Path.{◌∙◌}
 use native.Mathlib.Omega.{arith}
 use Rattle.grammar.proofs.Fitting.{at_kind_law, leaf_at_kind, second_unfit, third_unfit, always_fits, never_fits, byte_fits, class_fits, kind_unfit}
-use borrow.Author.Rules.{rules}
 use Rattle.grammar.proofs.sheet.rule_word.Goals as goal
 
 pub returns-then-kind-eq4 : goal.returns-then-kind-eq4
