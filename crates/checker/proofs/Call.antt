@@ -6,6 +6,7 @@ use mathlib.Core.Logic.{◌↔◌}
 use mathlib.Core.Path.{◌≡◌, refl, sym, ap, ◌∙◌}
 use Prim.Native.Nat.{ℕ}
 use lib.ListN.{length}
+use Rattle.std.specs.Prelude.{Result as Answer}
 use Rattle.grammar.specs.Refusal.{refused, accepted}
 use Rattle.grammar.specs.Sheet.{Grammar}
 use Rattle.schema.specs.Derivation.{Pair, ◌at◌, Result, success, failure, Outcome, result, Has}
@@ -14,6 +15,7 @@ use Rattle.schema.proofs.Laws.{has_one}
 use Rattle.checker.specs.Checker.{Claimed, judged, told, Checks}
 use Rattle.checker.specs.Proper.{Proper, claimed, Claims}
 use Rattle.checker.specs.declared.Claim.{Claim}
+use Rattle.checker.specs.declared.Rejection.{Rejection}
 use Rattle.checker.proofs.Derived.{each_derived}
 use Rattle.checker.proofs.Exactly.{judged_proper, proper_judged}
 use Rattle.checker.proofs.Certificate.{check_refused, check_judged}
@@ -29,7 +31,7 @@ claimed_one (A at p) failure failure h = refl
 pub proper_derived : (g : Grammar) (input s : List ℕ) (x : Pair) (t : Result) → Proper g input s x t → Has g.rule input x (result t)
 proper_derived g input s x t p = each_derived g input p.each (length p.lines) x t p.last
 
-module _ (sheet input : List ℕ) (x : Pair) (certificate : List ℕ) (r : Claim) (checks : Checks sheet input x certificate r) where
+module _ (sheet input : List ℕ) (x : Pair) (certificate : List ℕ) (r : Answer Claim Rejection) (checks : Checks sheet input x certificate r) where
   -- A question that is refused is refused with any certificate.
   pub call_refused : (y l : ℕ) → handed sheet (asked input x) ≡ refused y l → told r ≡ refused y l
   call_refused y l e = checks ∙ sym (check_refused sheet input x certificate y l e)

@@ -1,6 +1,5 @@
 -- Laws of the checker.
 pub mod LineForm
-pub mod Results
 pub mod Progress
 pub mod Certificate
 pub mod Relation

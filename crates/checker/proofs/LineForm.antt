@@ -5,26 +5,18 @@ use mathlib.Core.List.{List}
 use mathlib.Core.Option.{Option, none}
 use Prim.Native.Nat.{ℕ, zero, suc, ◌+◌, ◌-◌, ◌*◌, ◌≤◌, ◌<◌}
 use native.Mathlib.Omega.{arith}
-use lib.Dec.{ltb}
+use lib.Dec.{eqb, ltb}
 use lib.ListN.{get_or}
-use borrow.Author.Tests.{lt-ltb, le-ltb, eq-eqb, ne_eqb}
+use borrow.Author.Tests.{lt-ltb, le-ltb}
 use Rattle.columns.specs.Column.{fields}
 use Rattle.schema.specs.Line.{Line}
 use Rattle.checker.specs.Checker.{line_from, line_at, earlier_line}
 
--- A line without byte 10 at its end is not of the form.
-pub line_open : (s : List ℕ) (n : ℕ) → 1 ≤ n → (get_or s (49 * (n - 1) + 48) 0 ≡ 10 → ⊥) → line_at s n ≡ none
+-- The line of a number: that of its fields, if it ends with byte 10.
+pub line_form : (s : List ℕ) (n : ℕ) → 1 ≤ n → line_at s n ≡ cond (eqb (get_or s (49 * (n - 1) + 48) 0) 10) (line_from (fields 6 8 s (49 * (n - 1)))) none
 unfolding line_at
-line_open s zero l d = refl
-line_open s (suc k) l d = let z : suc k - 1 ≡ k = omega arith in rw (ne_eqb (get_or s (49 * k + 48) 0) 10 (λ e. d (ap (λ (m : ℕ). get_or s (49 * m + 48) 0) z ∙ e)))
-
--- A line with byte 10 at its end is that of its fields.
-pub line_closed : (s : List ℕ) (n : ℕ) → 1 ≤ n → get_or s (49 * (n - 1) + 48) 0 ≡ 10 → line_at s n ≡ line_from (fields 6 8 s (49 * (n - 1)))
-unfolding line_at
-line_closed s zero l e = absurd (omega arith)
-line_closed s (suc k) l e =
-    let z : suc k - 1 ≡ k = omega arith in
-    rw (eq-eqb (get_or s (49 * k + 48) 0) 10 (ap (λ (m : ℕ). get_or s (49 * m + 48) 0) (sym z) ∙ e), z)
+line_form s zero l = absurd (omega arith)
+line_form s (suc k) l = let z : suc k - 1 ≡ k = omega arith in rw z
 
 -- A line of a smaller number is an earlier line; no earlier line has the number n or a greater one, or the number 0.
 pub is_earlier : (s : List ℕ) (n i : ℕ) → i < n → earlier_line s n i ≡ line_at s i

@@ -1,5 +1,6 @@
 -- Document 01, "Readings": the checker, with refusals 12 to 14. A certificate is what document 01 calls a reading. Assumes nothing.
 use Rattle.std.specs.Prelude.{Bool, true, false, cond, not, ◌&&◌, List, [], ◌∷◌, ◌++◌, ◌≡◌, ℕ, zero, suc, ◌+◌, ◌*◌, ◌/◌, ◌%◌, ltb, leb, eqb, length, get_or}
+use Rattle.std.specs.Prelude.{Result as Answer}
 use Rattle.std.proofs.Math.Option.{Option, none, some}
 use Rattle.columns.specs.Column.{fields}
 use Rattle.grammar.specs.Refusal.{Checked, refused, accepted, checked, from}
@@ -9,7 +10,9 @@ use Rattle.schema.specs.Derivation.{Pair, ◌at◌, Result, success, failure, Ac
 use Rattle.schema.specs.Handed.{asked, handed_condition, handed_order}
 use Rattle.schema.specs.Line.{Line, line}
 use Rattle.checker.specs.declared.Claim.{Claim}
-use Rattle.checker.specs.declared.Claim.TheVariants.{Success, Failure, Refused}
+use Rattle.checker.specs.declared.Claim.TheVariants.{Success, Failure}
+use Rattle.checker.specs.declared.Rejection.{Rejection}
+use Rattle.checker.specs.Rejections.{checked_as}
 
 -- ---- Lines, "counted from 1".
 
@@ -133,12 +136,15 @@ judged rule v input x s = checked (certificate_condition rule v input x s) (cert
 unfoldable pub check : List ℕ → List ℕ → Pair → List ℕ → Checked Claimed
 check sheet input x s = checked (check_condition sheet input x s) (check_order sheet s) (claim_of (line_at s (lines s)))
 
--- What each case of the answer says.
-abbrev pub told : Claim → Checked Claimed
-told (Success e) = accepted (succeeds e)
-told (Failure e) = accepted (fails e)
-told (Refused number n) = refused number n
+-- What each claim says.
+abbrev pub claim_says : Claim → Claimed
+claim_says (Success e) = succeeds e
+claim_says (Failure e) = fails e
+
+-- What the answer says: the claim, or the refusal's number and line.
+abbrev pub told : Answer Claim Rejection → Checked Claimed
+told = checked_as claim_says
 
 -- The promise of the checker.
-abbrev pub Checks : List ℕ → List ℕ → Pair → List ℕ → Claim → Type 0
+abbrev pub Checks : List ℕ → List ℕ → Pair → List ℕ → Answer Claim Rejection → Type 0
 Checks sheet input x s r = told r ≡ check sheet input x s

@@ -1,5 +1,6 @@
 -- Demand 2 for readings: "each line follows from a rule and earlier lines and the last is the pair in question". Assumes nothing.
 use Rattle.std.specs.Prelude.{List, [], ◌∷◌, ◌++◌, ◌≡◌, ℕ, suc, ◌*◌, ◌<◌, length}
+use Rattle.std.specs.Prelude.{Result as Answer}
 use Rattle.std.proofs.Math.ListN.{get_elem?}
 use Rattle.grammar.specs.Refusal.{accepted}
 use Rattle.grammar.specs.Sheet.{Grammar}
@@ -7,6 +8,7 @@ use Rattle.schema.specs.Derivation.{Pair, ◌at◌, Result, success, failure}
 use Rattle.schema.specs.Line.{Line, Stands, Follows}
 use Rattle.checker.specs.Checker.{line_at, Claimed, succeeds, fails, told}
 use Rattle.checker.specs.declared.Claim.{Claim}
+use Rattle.checker.specs.declared.Rejection.{Rejection}
 
 -- The certificate is these lines.
 pub record Reads (s : List ℕ) (ls : List Line) : Type 0 where
@@ -33,5 +35,5 @@ claimed (A at p) (success q) = succeeds q
 claimed (A at p) failure = fails p
 
 -- The answer passes the certificate, which claims the result t of the pair x.
-abbrev pub Claims : Claim → Pair → Result → Type 0
+abbrev pub Claims : Answer Claim Rejection → Pair → Result → Type 0
 Claims r x t = told r ≡ accepted (claimed x t)

@@ -1,10 +1,9 @@
-use mathlib.Core.Path.{sym, ap, ◌∙◌}
+use Rattle.std.proofs.lemmas.Result.{err_from_is_err_and}
 use Rattle.grammar.specs.Words.{rule_in}
 use Rattle.schema.specs.Derivation.{◌at◌}
-use Rattle.checker.specs.Steps.{test_says}
 use Rattle.checker.proofs.Certificate.{judged_length, judged_line, judged_last}
-use borrow.Author.Rules.{rules}
 use Rattle.checker.proofs.judge.Goals as goal
+use mathlib.Core.Path.{◌∙◌}
 
 -- `judge` judges a certificate by the rules. Assumes nothing.
 pub returns-then-certificate-ne0 : goal.returns-then-certificate-ne0
@@ -12,15 +11,14 @@ returns-then-certificate-ne0 c =
     let a = c.args in
     judged_length (rule_in a.rules.now) a.variables a.input.now (a.variable at a.position) a.certificate.now c.if-certificate-ne0.true
 
-pub returns-in-Passed : goal.returns-in-Passed
-returns-in-Passed c =
+pub returns-in_err-check_lines : goal.returns-in_err-check_lines
+returns-in_err-check_lines c =
+    let a = c.args in
+    let p = err_from_is_err_and c.from_residual.result c.from_residual.ensures.1 in
+    rw (p.1, p.2) (judged_line (rule_in a.rules.now) a.variables a.input.now (a.variable at a.position) a.certificate.now c.if-certificate-ne0.false c.in_err-check_lines.ensures)
+
+pub returns : goal.returns
+returns c =
     let a = c.args in
     c.last_line.ensures
-    ∙ judged_last (rule_in a.rules.now) a.variables a.input.now (a.variable at a.position) a.certificate.now c.if-certificate-ne0.false
-    (sym (ap test_says c.in-Passed.is) ∙ c.check_lines-tested.ensures)
-
-pub returns-in-Refused : goal.returns-in-Refused
-returns-in-Refused c =
-    let a = c.args in
-    judged_line (rule_in a.rules.now) a.variables a.input.now (a.variable at a.position) a.certificate.now c.if-certificate-ne0.false
-    (sym (ap test_says c.in-Refused.is) ∙ c.check_lines-tested.ensures)
+    ∙ judged_last (rule_in a.rules.now) a.variables a.input.now (a.variable at a.position) a.certificate.now c.if-certificate-ne0.false c.in_ok-check_lines.ensures
