@@ -6,9 +6,11 @@ use Prim.Native.Nat.{ℕ, ◌*◌, ◌-◌, ◌/◌, ◌≤◌}
 use native.Mathlib.Nat.{suc-ne-zero}
 use native.Mathlib.Omega.{arith}
 use lib.ListN.{length}
+use Rattle.std.specs.Prelude.{Result as Answer}
 use Rattle.grammar.specs.Refusal.{accepted}
 use Rattle.grammar.specs.Sheet.{Grammar}
 use Rattle.grammar.specs.Printing.{text}
+use Rattle.grammar.specs.declared.refusal.Refusal.{Refusal}
 use Rattle.schema.specs.Cases.{Case, cases, first_pair}
 use Rattle.schema.specs.Derivation.{Pair, Result, Derives, Stop, Stops, Loops, Outcome, result, stopped, Has}
 use Rattle.schema.specs.Handed.{asked, handed, question_of}
@@ -23,10 +25,10 @@ use Rattle.backtrack.proofs.Named.{named, on_loop}
 use Rattle.backtrack.proofs.Stopped.{stop_named}
 
 -- The ending names the outcome, after any number of moves.
-abbrev pub Names : Ending → Outcome → Type 0
+abbrev pub Names : Answer Ending Refusal → Outcome → Type 0
 Names r o = (moves : ℕ) × (told r ≡ accepted (ran (says o) moves))
 
-module _ (sheet input : List ℕ) (x : Pair) (frames frames' : List ℕ) (budget : ℕ) (r : Ending) (runs : Runs sheet input x frames frames' budget r)
+module _ (sheet input : List ℕ) (x : Pair) (frames frames' : List ℕ) (budget : ℕ) (r : Answer Ending Refusal) (runs : Runs sheet input x frames frames' budget r)
     (g : Grammar) (e : handed sheet (asked input x) ≡ accepted g) where
   -- The call says what the machine comes to.
   pub call_says : told r ≡ accepted (machine g.rule input x budget (length frames / 3))
@@ -78,7 +80,7 @@ module _ (sheet input : List ℕ) (x : Pair) (frames frames' : List ℕ) (budget
 
 -- Every missing rule is named, lent enough moves and frames.
 pub call_stops : (sheet input : List ℕ) (x : Pair) (g : Grammar) → handed sheet (asked input x) ≡ accepted g → {w : Stop} → Stops g.rule input w x
-    → (moves : ℕ) × (room : ℕ) × ((frames frames' : List ℕ) (budget : ℕ) (r : Ending) → Runs sheet input x frames frames' budget r
+    → (moves : ℕ) × (room : ℕ) × ((frames frames' : List ℕ) (budget : ℕ) (r : Answer Ending Refusal) → Runs sheet input x frames frames' budget r
     → moves ≤ budget → room ≤ length frames / 3 → told r ≡ accepted (ran (says (stopped w)) moves))
 call_stops sheet input x g e {w} t =
     let n = stop_named g.rule input t in (
@@ -89,7 +91,7 @@ call_stops sheet input x g e {w} t =
     )
 
 -- On each of the marked cases, lent its budget and its room, the call says what the case gives.
-pub cases_run : (c : Case) → Memᴰ c cases → (frames frames' : List ℕ) (r : Ending) → length frames / 3 ≡ c.room
+pub cases_run : (c : Case) → Memᴰ c cases → (frames frames' : List ℕ) (r : Answer Ending Refusal) → length frames / 3 ≡ c.room
     → Runs (text c.lines) c.input first_pair frames frames' c.budget r → told r ≡ accepted c.run
 cases_run c m frames frames' r e runs =
     let holds = cases_hold c m in

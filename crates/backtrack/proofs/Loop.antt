@@ -11,11 +11,11 @@ use Rattle.grammar.specs.Rule.{Rule}
 use Rattle.grammar.specs.Words.{rule_in}
 use Rattle.schema.specs.Derivation.{◌at◌}
 use Rattle.schema.specs.Machine.{frame, stage0, no_frame, ran, run, machine}
-use Rattle.backtrack.specs.Run.{told}
+use Rattle.backtrack.specs.Run.{ending_says}
 use Rattle.backtrack.specs.Frames.{stack_in, state_in, Valid, Turns}
 use Rattle.backtrack.specs.declared.Ending.{Ending}
 use Rattle.backtrack.specs.declared.Registers.{Registers}
-use Rattle.backtrack.specs.declared.Turn.TheVariants.{Ended, Moved}
+use Rattle.std.specs.declared.ops.ControlFlow.TheVariants.{Break, Continue}
 use Rattle.backtrack.proofs.Stack.{no_frame_law}
 use Rattle.backtrack.proofs.Steps.{machine_run, machine_none}
 
@@ -49,11 +49,11 @@ module _ (ws input : List ℕ) (A p budget : ℕ) (xs : List ℕ) where
 
   module _ (ys : List ℕ) (x : Registers) (h : Head ws input A p budget xs ys x) where
     -- The run ends.
-    pub on_end : (zs : List ℕ) (e : Ending) → Turns (rule_in ws) input budget (length ys / 3) (state_in ys x) zs (Ended e)
-        → told e ≡ accepted (machine (rule_in ws) input (A at p) budget (length xs / 3))
-    on_end zs e t = t ∙ ap (λ a. accepted a) h.goes
+    pub on_end : (zs : List ℕ) (e : Ending) → Turns (rule_in ws) input budget (length ys / 3) (state_in ys x) zs (Break e)
+        → accepted (ending_says e) ≡ accepted (machine (rule_in ws) input (A at p) budget (length xs / 3))
+    on_end zs e t = ap (λ a. accepted a) (t ∙ h.goes)
 
     -- It goes on.
     pub on_move : (zs : List ℕ) (y : Registers) → length zs ≡ length ys
-        → Turns (rule_in ws) input budget (length ys / 3) (state_in ys x) zs (Moved y) → Head ws input A p budget xs zs y
+        → Turns (rule_in ws) input budget (length ys / 3) (state_in ys x) zs (Continue y) → Head ws input A p budget xs zs y
     on_move zs y same t = record { same = same ∙ h.same; paid = t.within; valid = t.valid; goes = rw same (sym t.same ∙ h.goes) }

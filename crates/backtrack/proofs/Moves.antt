@@ -6,18 +6,20 @@ use Prim.Native.Nat.{ℕ, zero, suc, ◌+◌, ◌-◌, ◌*◌, ◌/◌, ◌<◌
 use native.Mathlib.Nat.{suc-ne-zero}
 use native.Mathlib.Omega.{arith}
 use lib.ListN.{length, drop}
-use Rattle.grammar.specs.Refusal.{accepted}
 use Rattle.grammar.specs.Rule.{Rule}
 use Rattle.grammar.specs.Words.{rule_in}
 use Rattle.schema.specs.Derivation.{Outcome}
-use Rattle.schema.specs.Machine.{Stage, Frame, frame, State, state, outcome, move, step, no_frame, ran, run}
-use Rattle.backtrack.specs.Run.{told}
-use Rattle.backtrack.specs.Frames.{flag_of, stage_of, stack_in, state_in, Valid, restaged, pushed, Says, at_last, Goes}
+use Rattle.schema.specs.Machine.{Stage, Frame, frame, State, state, outcome, move, step, spent, no_frame, ran, run}
+use Rattle.backtrack.specs.Run.{ending_says}
+use Rattle.backtrack.specs.Frames.{flag_of, stage_of, stack_in, state_in, Valid, restaged, pushed, Says, Plans, Goes}
 use Rattle.backtrack.specs.declared.Ending.{Ending}
+use Rattle.backtrack.specs.declared.Move.{Move}
+use Rattle.backtrack.specs.declared.Move.TheVariants.{Pop, Push}
 use Rattle.backtrack.specs.declared.Registers.{Registers}
+use Rattle.std.specs.declared.ops.ControlFlow.TheVariants.{Continue}
 use Rattle.backtrack.proofs.Stack.{stack_top, length_stack}
 use Rattle.backtrack.proofs.Sound.{sound_move}
-use Rattle.backtrack.proofs.Unrolled.{run_outcome, run_last, run_full, run_on}
+use Rattle.backtrack.proofs.Unrolled.{run_outcome, run_spent, run_full, run_on}
 
 -- ---- A move needs a frame.
 
@@ -46,13 +48,14 @@ module _ (ws input xs : List ℕ) (budget : ℕ) (x : Registers) (h : Valid (rul
 
   -- There is an outcome.
   pub turn_outcome : (e : Ending) (o : Outcome) → step (rule_in ws) input here ≡ outcome o → Says x.moves o e
-      → told e ≡ accepted (run (rule_in ws) input left room here)
-  turn_outcome e o at same = same ∙ ap (λ a. accepted a) (sym (run_outcome (rule_in ws) input left room here o at))
+      → ending_says e ≡ run (rule_in ws) input left room here
+  turn_outcome e o at same = same ∙ sym (run_outcome (rule_in ws) input left room here o at)
 
   -- The budget is used.
-  pub turn_last : (e : Ending) → left ≡ 0 → told e ≡ accepted (at_last (step (rule_in ws) input here) x.moves)
-      → told e ≡ accepted (run (rule_in ws) input left room here)
-  turn_last e z same = same ∙ ap (λ a. accepted a) (sym (run_last (rule_in ws) input left room here z))
+  pub turn_spent : (next : Move) → Plans x.moves (stack_in xs x.depth) (step (rule_in ws) input here) (Continue next) → left ≡ 0
+      → ran spent x.moves ≡ run (rule_in ws) input left room here
+  turn_spent (Pop flag q) at z = sym (run_spent (rule_in ws) input left room here _ z at)
+  turn_spent (Push flag stage A q) at z = sym (run_spent (rule_in ws) input left room here _ z at)
 
   -- A frame is to be popped or pushed, so there is one.
   pub turn_deep : (y : State) → step (rule_in ws) input here ≡ move y → 0 < x.depth
@@ -61,11 +64,11 @@ module _ (ws input xs : List ℕ) (budget : ℕ) (x : Registers) (h : Valid (rul
   -- A push lacks room.
   pub turn_full : (flag : Bool) (stage A q : ℕ)
       → step (rule_in ws) input here ≡ move (state (flag_of flag) q (x.moves + 1) (pushed stage A q (stack_in xs x.depth))) → 0 < left
-      → length xs - x.depth * 3 < 3 → accepted (ran no_frame x.moves) ≡ accepted (run (rule_in ws) input left room here)
+      → length xs - x.depth * 3 < 3 → ran no_frame x.moves ≡ run (rule_in ws) input left room here
   turn_full flag stage A q at some full =
       let a = length_restaged (stage_of stage) (stack_in xs x.depth) in
       let b = length_stack xs x.depth in
-      ap (λ a. accepted a) (sym (run_full (rule_in ws) input left room here _ some at (omega arith)))
+      sym (run_full (rule_in ws) input left room here _ some at (omega arith))
 
   -- The move is made.
   turn_moved : (xs' : List ℕ) (y : Registers) → step (rule_in ws) input here ≡ move (state_in xs' y) → y.moves ≡ x.moves + 1 → 0 < left

@@ -3,6 +3,7 @@ use mathlib.Core.Bool.{Bool, true, false, cond}
 use mathlib.Core.List.{List, ◌∷◌}
 use mathlib.Core.Path.{◌≡◌}
 use Prim.Native.Nat.{ℕ, ◌+◌, ◌-◌, ◌*◌, ◌<◌, ◌≤◌}
+use native.Mathlib.Omega.{arith}
 use lib.ListN.{get_or}
 use borrow.Author.Tests.{ne_eqb}
 use Rattle.grammar.specs.Rule.{Rule}
@@ -10,8 +11,10 @@ use Rattle.schema.specs.Derivation.{Act, act, act_of, ◌at◌, result, success,
 use Rattle.schema.specs.Machine.{Frame, frame, stage0, state, stage0_of, step}
 use Rattle.backtrack.specs.Frames.{flag_of, stack_in, Calls, Sound, Says, Plans}
 use Rattle.backtrack.specs.declared.Ending.{Ending}
-use Rattle.backtrack.specs.declared.Plan.{Plan}
-use Rattle.backtrack.specs.declared.Plan.TheVariants.{End, Pop, Push}
+use Rattle.backtrack.specs.declared.Move.{Move}
+use Rattle.backtrack.specs.declared.Move.TheVariants.{Pop, Push}
+use Rattle.std.specs.declared.ops.ControlFlow.{ControlFlow}
+use Rattle.std.specs.declared.ops.ControlFlow.TheVariants.{Break, Continue}
 use Rattle.backtrack.proofs.Stack.{stack_top}
 
 -- The numbers of the top frame, of d frames.
@@ -38,17 +41,17 @@ sound_top rule xs d deep h =
 
 module _ (rule : ℕ → Rule) (input xs : List ℕ) (p moves d : ℕ) where
   -- The plan says what the machine's next step is.
-  abbrev Right : Bool → Plan → Type 0
+  abbrev Right : Bool → ControlFlow Ending Move → Type 0
   Right flag plan = Plans moves (stack_in xs d) (step rule input (state (flag_of flag) p moves (stack_in xs d))) plan
 
   -- No frame is left.
-  pub right_bottom : (flag : Bool) (e : Ending) → d ≡ 0 → Says moves (result (cond flag (success p) failure)) e → Right flag (End e)
+  pub right_bottom : (flag : Bool) (e : Ending) → d ≡ 0 → Says moves (result (cond flag (success p) failure)) e → Right flag (Break e)
   unfolding step stack_in
   right_bottom true e z h = (result (success p), rw z, h)
   right_bottom false e z h = (result failure, rw z, h)
 
   -- The top frame is at stage 0.
-  pub right_stage0 : (flag : Bool) (a : Act) (plan : Plan) → 0 < d → stage xs d ≡ 0 → a ≡ act rule input (variable xs d at p)
+  pub right_stage0 : (flag : Bool) (a : Act) (plan : ControlFlow Ending Move) → 0 < d → stage xs d ≡ 0 → a ≡ act rule input (variable xs d at p)
       → ((X i : ℕ) (stack : List Frame) → Plans moves (frame X i stage0 ∷ stack) (stage0_of a (flag_of flag) X i p moves stack) plan)
       → Right flag plan
   unfolding step
@@ -57,14 +60,14 @@ module _ (rule : ℕ → Rule) (input xs : List ℕ) (p moves d : ℕ) where
 
   -- At stage 1: C or D is called.
   pub right_stage1 : (flag : Bool) (v q : ℕ) → 0 < d → stage xs d ≡ 1 → (k : Calls (rule (variable xs d))) → v ≡ cond flag k.1 k.2
-      → q ≡ cond flag p (start xs d) → Right flag (Push true 2 v q)
+      → q ≡ cond flag p (start xs d) → Right flag (Continue (Push true 2 v q))
   unfolding step act_of
   right_stage1 true v q deep z k e b = rw (stack_top xs d deep, z, k.3, e, b)
   right_stage1 false v q deep z k e b = rw (stack_top xs d deep, z, k.3, e, b)
 
   -- At stage 2: pop.
-  pub right_stage2 : (flag : Bool) (q : ℕ) → 0 < d → (stage xs d ≡ 0 → ⊥) → (stage xs d ≡ 1 → ⊥) → q ≡ cond flag p (start xs d)
-      → Right flag (Pop flag q)
+  pub right_stage2 : (flag : Bool) (q : ℕ) → 0 < d → 2 ≤ stage xs d → q ≡ cond flag p (start xs d)
+      → Right flag (Continue (Pop flag q))
   unfolding step
-  right_stage2 true q deep z o b = simp (stack_top xs d deep, ne_eqb (stage xs d) 0 z, ne_eqb (stage xs d) 1 o, b)
-  right_stage2 false q deep z o b = simp (stack_top xs d deep, ne_eqb (stage xs d) 0 z, ne_eqb (stage xs d) 1 o, b)
+  right_stage2 true q deep z b = simp (stack_top xs d deep, ne_eqb (stage xs d) 0 (omega arith), ne_eqb (stage xs d) 1 (omega arith), b)
+  right_stage2 false q deep z b = simp (stack_top xs d deep, ne_eqb (stage xs d) 0 (omega arith), ne_eqb (stage xs d) 1 (omega arith), b)

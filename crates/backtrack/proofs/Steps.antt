@@ -12,7 +12,7 @@ use Rattle.schema.proofs.Ends.{position_of}
 use Rattle.schema.specs.Derivation.{Pair, ◌at◌, Result, success, failure, gives, calls, act, second}
 use Rattle.schema.specs.Machine.{s, stage0, stage1, stage2, Frame, frame, State, state, moves_of, stack_of, move, popped, step, ran, spent, no_frame, run, machine}
 use Rattle.backtrack.proofs.Part.{Part, goes, short, narrow}
-use Rattle.backtrack.proofs.Unrolled.{run_last, run_full, run_on}
+use Rattle.backtrack.proofs.Unrolled.{run_spent, run_full, run_on}
 
 -- A pair is asked, after m moves, over the stack.
 abbrev pub asked : Pair → ℕ → List Frame → State
@@ -71,7 +71,7 @@ module _ (rule : ℕ → Rule) (input : List ℕ) where
       → Part l 1 room n m (run rule input l room x) (λ left moves. run rule input left room (y moves))
   one zero room n m x y made size e =
       let q : moves_of x ≡ m + 0 = omega arith in
-      short (omega arith) (run_last rule input 0 room x refl ∙ rw e (ap (λ i. ran spent i) q))
+      short (omega arith) (run_spent rule input 0 room x (y (m + 1)) refl e ∙ ap (λ i. ran spent i) q)
   one (suc l) room n m x y made size e = go (leb (length (stack_of (y (m + 1)))) room) refl
     where
       go : (b : Bool) → leb (length (stack_of (y (m + 1)))) room ≡ b

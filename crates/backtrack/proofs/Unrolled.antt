@@ -7,8 +7,7 @@ use lib.ListN.{length}
 use borrow.Author.Tests.{le-leb, lt-leb}
 use Rattle.grammar.specs.Rule.{Rule}
 use Rattle.schema.specs.Derivation.{Outcome}
-use Rattle.schema.specs.Machine.{State, moves_of, stack_of, Next, outcome, move, step, says, no_frame, ran, run}
-use Rattle.backtrack.specs.Frames.{at_last}
+use Rattle.schema.specs.Machine.{State, moves_of, stack_of, outcome, move, step, says, spent, no_frame, ran, run}
 
 module _ (rule : ℕ → Rule) (input : List ℕ) where
   -- There is an outcome.
@@ -18,13 +17,9 @@ module _ (rule : ℕ → Rule) (input : List ℕ) where
   run_outcome (suc left) room x o e = rw (e, run)
 
   -- The budget is used.
-  pub run_last : (left room : ℕ) (x : State) → left ≡ 0 → run rule input left room x ≡ at_last (step rule input x) (moves_of x)
+  pub run_spent : (left room : ℕ) (x y : State) → left ≡ 0 → step rule input x ≡ move y → run rule input left room x ≡ ran spent (moves_of x)
   unfolding run
-  run_last left room x z = rw z (go (step rule input x) refl)
-    where
-      go : (n : Next) → step rule input x ≡ n → run rule input 0 room x ≡ at_last (step rule input x) (moves_of x)
-      go (outcome o) e = rw (e, run)
-      go (move y) e = rw (e, run)
+  run_spent left room x y z e = rw z (rw (e, run))
 
   -- A push lacks room.
   pub run_full : (left room : ℕ) (x y : State) → 0 < left → step rule input x ≡ move y → room < length (stack_of y)

@@ -1,16 +1,15 @@
 -- How the code holds the machine's state, and what its parts do. Assumes nothing.
 use Rattle.std.specs.Prelude.{Bool, true, false, cond, List, [], ◌∷◌, ◌≡◌, ℕ, zero, suc, ◌+◌, ◌-◌, ◌*◌, ◌≤◌, eqb, length, get_or, drop}
-use Rattle.grammar.specs.Refusal.{accepted}
 use Rattle.grammar.specs.Rule.{Rule, call}
 use Rattle.schema.specs.Derivation.{Outcome}
-use Rattle.schema.specs.Machine.{Flag, s, f, Stage, stage0, stage1, stage2, Frame, frame, State, state, moves_of, Next, outcome, move, says, spent, Ran, ran, run}
-use Rattle.backtrack.specs.Run.{told}
+use Rattle.schema.specs.Machine.{Flag, s, f, Stage, stage0, stage1, stage2, Frame, frame, State, state, moves_of, Next, outcome, move, says, ran, run}
+use Rattle.backtrack.specs.Run.{ending_says}
 use Rattle.backtrack.specs.declared.Ending.{Ending}
 use Rattle.backtrack.specs.declared.Registers.{Registers}
-use Rattle.backtrack.specs.declared.Plan.{Plan}
-use Rattle.backtrack.specs.declared.Plan.TheVariants.{End, Pop, Push}
-use Rattle.backtrack.specs.declared.Turn.{Turn}
-use Rattle.backtrack.specs.declared.Turn.TheVariants.{Ended, Moved}
+use Rattle.backtrack.specs.declared.Move.{Move}
+use Rattle.backtrack.specs.declared.Move.TheVariants.{Pop, Push}
+use Rattle.std.specs.declared.ops.ControlFlow.{ControlFlow}
+use Rattle.std.specs.declared.ops.ControlFlow.TheVariants.{Break, Continue}
 
 -- "A lent slice of 32-bit numbers holds three a frame": variable, start, stage.
 abbrev pub stage_of : ℕ → Stage
@@ -60,18 +59,13 @@ pushed stage A p stack = frame A p stage0 ∷ restaged (stage_of stage) stack
 
 -- The ending says an outcome, after so many moves.
 abbrev pub Says : ℕ → Outcome → Ending → Type 0
-Says moves o e = told e ≡ accepted (ran (says o) moves)
+Says moves o e = ending_says e ≡ ran (says o) moves
 
 -- The plan says what comes next after so many moves, over the stack.
-abbrev pub Plans : ℕ → List Frame → Next → Plan → Type 0
-Plans moves stack next (End e) = (o : Outcome) × (next ≡ outcome o) × Says moves o e
-Plans moves stack next (Pop flag q) = next ≡ move (state (flag_of flag) q (moves + 1) (drop 1 stack))
-Plans moves stack next (Push flag stage A q) = next ≡ move (state (flag_of flag) q (moves + 1) (pushed stage A q stack))
-
--- The result where the budget is used: "an outcome if there is one, then spent".
-abbrev pub at_last : Next → ℕ → Ran
-at_last (outcome o) moves = ran (says o) moves
-at_last (move y) moves = ran spent moves
+abbrev pub Plans : ℕ → List Frame → Next → ControlFlow Ending Move → Type 0
+Plans moves stack next (Break e) = (o : Outcome) × (next ≡ outcome o) × Says moves o e
+Plans moves stack next (Continue (Pop flag q)) = next ≡ move (state (flag_of flag) q (moves + 1) (drop 1 stack))
+Plans moves stack next (Continue (Push flag stage A q)) = next ≡ move (state (flag_of flag) q (moves + 1) (pushed stage A q stack))
 
 -- ---- What a move comes to.
 
@@ -83,6 +77,6 @@ pub record Goes (rule : ℕ → Rule) (input : List ℕ) (budget room : ℕ) (x 
   pub same : run rule input (budget - moves_of x) room x ≡ run rule input (budget - y.moves) room (state_in frames y)
 
 -- The run from x ends, or it goes on.
-abbrev pub Turns : (ℕ → Rule) → List ℕ → ℕ → ℕ → State → List ℕ → Turn → Type 0
-Turns rule input budget room x frames (Ended e) = told e ≡ accepted (run rule input (budget - moves_of x) room x)
-Turns rule input budget room x frames (Moved y) = Goes rule input budget room x frames y
+abbrev pub Turns : (ℕ → Rule) → List ℕ → ℕ → ℕ → State → List ℕ → ControlFlow Ending Registers → Type 0
+Turns rule input budget room x frames (Break e) = ending_says e ≡ run rule input (budget - moves_of x) room x
+Turns rule input budget room x frames (Continue y) = Goes rule input budget room x frames y

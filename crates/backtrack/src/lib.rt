@@ -2,26 +2,26 @@
 #![tactic(auto)]
 
 ghost use Rattle.std.specs.Prelude.{cond, List, ◌∷◌, ◌≡◌, ℕ, ◌+◌, ◌*◌, ◌/◌, ◌≤◌, length};
-ghost use Rattle.grammar.specs.Refusal.{accepted};
 ghost use Rattle.grammar.specs.Words.{rule_in};
 ghost use Rattle.rules.specs.Act.{told as does};
 ghost use Rattle.schema.specs.Derivation.{◌at◌, result as ended_with, success, failure};
-ghost use Rattle.schema.specs.Machine.{Frame, frame, stage0, stage0_of, Next, step};
-ghost use Rattle.backtrack.specs.Run.{told, RunsTo, Runs};
-ghost use Rattle.backtrack.specs.Frames.{flag_of, stack_in, state_in, pushed, Valid, Says, Plans, at_last, Turns};
+ghost use Rattle.schema.specs.Machine.{Frame, frame, stage0, stage0_of, step};
+ghost use Rattle.backtrack.specs.Run.{RunsTo, Runs};
+ghost use Rattle.backtrack.specs.Frames.{flag_of, stack_in, state_in, pushed, Valid, Says, Plans, Turns};
 
+use grammar::refusal::Refusal;
 use grammar::sheet::{Rules, Sheet};
 use rules::{Act, act_at, admit, second_of};
+use std::ops::ControlFlow;
 
-// What a run ends with: an outcome (success with its end), spent or no frame, each with the moves made; or a refusal's number and line.
-#[derive(Drop)]
+// What a run ends with: an outcome (success with its end), spent or no frame, each with the moves made.
+#[derive(Clone, Copy, PartialEq, Eq)]
 pub enum Ending {
     Success(u32, u32),
     Failure(u32),
     Missing(u32),
     Spent(u32),
     NoFrame(u32),
-    Refused(u32, u32),
 }
 
 // The machine's state but for the frames: the flag, true for s; the position; the moves made; the number of frames.
@@ -33,30 +33,19 @@ struct Registers {
     depth: usize,
 }
 
-// What comes next: an outcome; a pop, with the flag and the position after it; a push, with the flag after it, the next stage of the
-// top frame, and the variable and the position of the frame above it.
-#[derive(Drop)]
-enum Plan {
-    End(Ending),
+// A move: a pop, with the flag and the position after it; a push, with the flag after it, the next stage of the top frame, and the variable and
+// the position of the frame above it.
+#[derive(Clone, Copy)]
+enum Move {
     Pop(bool, u32),
     Push(bool, u32, u32, u32),
 }
 
-// What a move comes to.
-#[derive(Drop)]
-enum Turn {
-    Ended(Ending),
-    Moved(Registers),
-}
-
 // Where a call comes back to: the position on success, the start on failure.
-fn back(flag: bool, position: u32, start: u32) -> u32
-    ensures { result ≡ cond flag position start }
+fn back(x: Registers, start: u32) -> u32
+    ensures { result ≡ cond x.flag x.position start }
 {
-    if flag {
-        return position;
-    }
-    start
+    if x.flag { x.position } else { start }
 }
 
 // The outcome with no frame left.
@@ -64,45 +53,49 @@ fn bottom(x: Registers) -> Ending
     ensures { Says x.moves (ended_with (cond x.flag (success x.position) failure)) result }
 {
     if x.flag {
-        return Ending::Success(x.position, x.moves);
+        Ending::Success(x.position, x.moves)
+    } else {
+        Ending::Failure(x.moves)
     }
-    Ending::Failure(x.moves)
 }
 
 // What comes next at stage 0, by what the rule does.
-fn plan_of(act: Act, x: Registers) -> Plan
+fn plan_of(act: Act, x: Registers) -> ControlFlow<Ending, Move>
     ensures { (X i : ℕ) (stack : List Frame) → Plans x.moves (frame X i stage0 ∷ stack) (stage0_of (does act) (flag_of x.flag) X i x.position x.moves stack) result }
 {
     match act {
-        Act::Success(end) => Plan::Pop(true, end),
-        Act::Failure => Plan::Pop(false, x.position),
-        Act::Missing => Plan::End(Ending::Missing(x.moves)),
-        Act::Calls(b, _, _) => Plan::Push(x.flag, 1, b, x.position),
+        Act::Success(end) => ControlFlow::Continue(Move::Pop(true, end)),
+        Act::Failure => ControlFlow::Continue(Move::Pop(false, x.position)),
+        Act::Missing => ControlFlow::Break(Ending::Missing(x.moves)),
+        Act::Calls(b, _, _) => ControlFlow::Continue(Move::Push(x.flag, 1, b, x.position)),
     }
 }
 
-// What comes next.
-fn peek(rules: &[u32; 256], input: &[u8], frames: &[u32], x: Registers) -> Plan
+// What comes next: an outcome, which ends the run, or a move.
+fn peek(rules: &Rules, input: &[u8], frames: &[u32], x: Registers) -> ControlFlow<Ending, Move>
     requires { (length input.now ≤ 4096) × Valid (rule_in rules.now) frames.now x }
     ensures { Plans x.moves (stack_in frames.now x.depth) (step (rule_in rules.now) input.now (state_in frames.now x)) result }
 {
     if x.depth == 0 {
-        return Plan::End(bottom(x));
+        return ControlFlow::Break(bottom(x));
     }
     let top = (x.depth - 1) * 3;
     let variable = frames[top];
-    let stage = frames[top + 2];
-    if stage == 0 {
-        return plan_of(act_at(rules, input, variable, x.position), x);
+    match frames[top + 2] {
+        0 => plan_of(act_at(rules, input, variable, x.position), x),
+        1 => {
+            let position = back(x, frames[top + 1]);
+            ControlFlow::Continue(Move::Push(true, 2, second_of(rules, variable, x.flag), position))
+        }
+        _ => {
+            let position = back(x, frames[top + 1]);
+            ControlFlow::Continue(Move::Pop(x.flag, position))
+        }
     }
-    let position = back(x.flag, x.position, frames[top + 1]);
-    if stage == 1 {
-        return Plan::Push(true, 2, second_of(rules, variable, x.flag), position);
-    }
-    Plan::Pop(x.flag, position)
 }
 
 // A frame at stage 0 above the first `depth` frames.
+#[tactic(auto, using(crate::proofs::Stack::stack_frame))]
 fn put_frame(frames: &mut [u32], depth: usize, variable: u32, position: u32)
     requires { depth * 3 + 3 ≤ length frames.old }
     ensures { stack_in frames.new (depth + 1) ≡ frame variable position stage0 ∷ stack_in frames.old depth }
@@ -114,6 +107,7 @@ fn put_frame(frames: &mut [u32], depth: usize, variable: u32, position: u32)
 }
 
 // The top frame at another stage, and a frame above it.
+#[tactic(auto, using(crate::proofs::Stack::stack_stage))]
 fn push(frames: &mut [u32], depth: usize, stage: u32, variable: u32, position: u32)
     requires { (1 ≤ depth) × (depth * 3 + 3 ≤ length frames.old) }
     ensures { stack_in frames.new (depth + 1) ≡ pushed stage variable position (stack_in frames.old depth) }
@@ -122,42 +116,36 @@ fn push(frames: &mut [u32], depth: usize, stage: u32, variable: u32, position: u
     put_frame(frames, depth, variable, position);
 }
 
-// With the budget used: the outcome if there is one, else spent.
-fn last(plan: Plan, moves: u32) -> Ending
-    ensures { (stack : List Frame) (next : Next) → Plans moves stack next plan → told result ≡ accepted (at_last next moves) }
-{
-    match plan {
-        Plan::End(ending) => ending,
-        Plan::Pop(_, _) => Ending::Spent(moves),
-        Plan::Push(_, _, _, _) => Ending::Spent(moves),
-    }
-}
-
 // One move; or what ends the run before it: an outcome, else spent, else no frame.
-fn advance(rules: &[u32; 256], input: &[u8], frames: &mut [u32], x: Registers, budget: u32) -> Turn
+fn advance(
+    rules: &Rules,
+    input: &[u8],
+    frames: &mut [u32],
+    x: Registers,
+    budget: u32,
+) -> ControlFlow<Ending, Registers>
     requires { (length input.now ≤ 4096) × (x.moves ≤ budget) × Valid (rule_in rules.now) frames.old x }
     ensures { Turns (rule_in rules.now) input.now budget (length frames.old / 3) (state_in frames.old x) frames.new result }
 {
-    let plan = peek(rules, input, frames, x);
+    let next = peek(rules, input, frames, x)?;
     let left = budget - x.moves;
     if left == 0 {
-        return Turn::Ended(last(plan, x.moves));
+        return ControlFlow::Break(Ending::Spent(x.moves));
     }
     let moves = x.moves + 1;
-    match plan {
-        Plan::End(ending) => Turn::Ended(ending),
-        Plan::Pop(flag, position) => {
+    match next {
+        Move::Pop(flag, position) => {
             let below = Registers {
                 flag,
                 position,
                 moves,
                 depth: x.depth - 1,
             };
-            Turn::Moved(below)
+            ControlFlow::Continue(below)
         }
-        Plan::Push(flag, stage, variable, position) => {
+        Move::Push(flag, stage, variable, position) => {
             if frames.len() - x.depth * 3 < 3 {
-                return Turn::Ended(Ending::NoFrame(x.moves));
+                return ControlFlow::Break(Ending::NoFrame(x.moves));
             }
             push(frames, x.depth, stage, variable, position);
             let above = Registers {
@@ -166,14 +154,14 @@ fn advance(rules: &[u32; 256], input: &[u8], frames: &mut [u32], x: Registers, b
                 moves,
                 depth: x.depth + 1,
             };
-            Turn::Moved(above)
+            ControlFlow::Continue(above)
         }
     }
 }
 
 // The machine's run over the rules' words.
 fn run_rules(
-    rules: &[u32; 256],
+    rules: &Rules,
     input: &[u8],
     variable: u32,
     position: u32,
@@ -181,7 +169,7 @@ fn run_rules(
     budget: u32,
 ) -> Ending
     requires { (1 ≤ variable) × (variable ≤ 256) × (length input.now ≤ 4096) }
-    ensures { RunsTo (rule_in rules.now) input.now (variable at position) frames.old frames.new budget result }
+    ensures { RunsTo (rule_in rules.now) input.now (variable at position) frames.old frames.new budget (Ok result) }
 {
     if frames.len() < 3 {
         return Ending::NoFrame(0);
@@ -194,14 +182,9 @@ fn run_rules(
         depth: 1,
     };
     loop {
-        let turn = advance(rules, input, frames, x, budget);
-        match turn {
-            Turn::Ended(ending) => {
-                return ending;
-            }
-            Turn::Moved(next) => {
-                x = next;
-            }
+        match advance(rules, input, frames, x, budget) {
+            ControlFlow::Break(ending) => return ending,
+            ControlFlow::Continue(next) => x = next,
         }
     }
 }
@@ -214,13 +197,12 @@ pub fn run(
     position: u32,
     frames: &mut [u32],
     budget: u32,
-) -> Ending
+) -> Result<Ending, Refusal>
     ensures { Runs sheet.now input.now (variable at position) frames.old frames.new budget result }
 {
     let mut rules: Rules = [0u32; 256];
-    let admission = admit(sheet, input, variable, position, &mut rules);
-    match admission {
-        Sheet::Refused(number, line) => Ending::Refused(number, line),
-        Sheet::Read(_) => run_rules(&rules, input, variable, position, frames, budget),
+    match admit(sheet, input, variable, position, &mut rules) {
+        Sheet::Refused(_, _) => Err(Refusal::NotLines),
+        Sheet::Read(_) => Ok(run_rules(&rules, input, variable, position, frames, budget)),
     }
 }

@@ -10,9 +10,6 @@ use borrow.Author.Rules.{rules}
 use Rattle.backtrack.proofs.peek.Goals as goal
 
 -- `peek` plans the machine's next step. Assumes nothing.
-pub bottom-requires : goal.bottom-requires
-bottom-requires c = search rules
-
 pub returns-then-x-eq0 : goal.returns-then-x-eq0
 returns-then-x-eq0 c =
     let a = c.args in
@@ -25,11 +22,11 @@ act_at-requires c =
     let t = sound_top (rule_in a.rules.now) a.frames.now a.x.depth (omega arith) c.requires.1.sound in
     (t.low, t.high, c.requires.0)
 
-pub returns-then-stage-eq0 : goal.returns-then-stage-eq0
-returns-then-stage-eq0 c =
+pub returns-in-0 : goal.returns-in-0
+returns-in-0 c =
     let a = c.args in
     right_stage0 (rule_in a.rules.now) a.input.now a.frames.now a.x.position a.x.moves a.x.depth a.x.flag
-    (told c.act_at.result) c.plan_of.result (omega arith) c.if-stage-eq0.true c.act_at.ensures
+    (told c.act_at.result) c.plan_of.result (omega arith) c.in-0.is c.act_at.ensures
     c.plan_of.ensures
 
 pub second_of-requires : goal.second_of-requires
@@ -38,17 +35,17 @@ second_of-requires c =
     let t = sound_top (rule_in a.rules.now) a.frames.now a.x.depth (omega arith) c.requires.1.sound in
     (t.low, t.high)
 
-pub returns-then-stage-eq1 : goal.returns-then-stage-eq1
-returns-then-stage-eq1 c =
+pub returns-in-1 : goal.returns-in-1
+returns-in-1 c =
     let a = c.args in
     let t = sound_top (rule_in a.rules.now) a.frames.now a.x.depth (omega arith) c.requires.1.sound in
-    let k = t.called c.if-stage-eq1.true in
+    let k = t.called c.in-1.is in
     right_stage1 (rule_in a.rules.now) a.input.now a.frames.now a.x.position a.x.moves a.x.depth a.x.flag
-    c.second_of.result c.back-position.result (omega arith) c.if-stage-eq1.true k
+    c.second_of.result c.back-position.result (omega arith) c.in-1.is k
     (c.second_of.ensures ∙ second_in_law a.rules.now (get_or a.frames.now ((a.x.depth - 1) * 3) 0) k.0 k.1 k.2 a.x.flag k.3) c.back-position.ensures
 
-pub returns : goal.returns
-returns c =
+pub returns-in_default : goal.returns-in_default
+returns-in_default c =
     let a = c.args in
     right_stage2 (rule_in a.rules.now) a.input.now a.frames.now a.x.position a.x.moves a.x.depth a.x.flag
-    c.back-position.result (omega arith) c.if-stage-eq0.false c.if-stage-eq1.false c.back-position.ensures
+    c.back-position-in_default.result (omega arith) (omega arith) c.back-position-in_default.ensures
