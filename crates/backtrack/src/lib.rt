@@ -10,7 +10,7 @@ ghost use Rattle.backtrack.specs.Run.{RunsTo, Runs};
 ghost use Rattle.backtrack.specs.Frames.{flag_of, stack_in, state_in, pushed, Valid, Says, Plans, Turns};
 
 use grammar::refusal::Refusal;
-use grammar::sheet::{Rules, Sheet};
+use grammar::sheet::Rules;
 use rules::{Act, act_at, admit, second_of};
 use std::ops::ControlFlow;
 
@@ -201,8 +201,6 @@ pub fn run(
     ensures { Runs sheet.now input.now (variable at position) frames.old frames.new budget result }
 {
     let mut rules: Rules = [0u32; 256];
-    match admit(sheet, input, variable, position, &mut rules) {
-        Sheet::Refused(_, _) => Err(Refusal::NotLines),
-        Sheet::Read(_) => Ok(run_rules(&rules, input, variable, position, frames, budget)),
-    }
+    admit(sheet, input, variable, position, &mut rules)?;
+    Ok(run_rules(&rules, input, variable, position, frames, budget))
 }

@@ -13,7 +13,7 @@ ghost use Rattle.checker.specs.Steps.{line_held, line_read, result_given, Sized,
 
 use columns::{Cursor, Field};
 use grammar::refusal::Refusal;
-use grammar::sheet::{Rules, Sheet};
+use grammar::sheet::Rules;
 use rules::{Act, act_at, admit};
 
 // What a passed certificate claims: success or failure, with the end in its last line.
@@ -337,17 +337,6 @@ pub fn check(
     ensures { Checks sheet.now input.now (variable at position) certificate.now result }
 {
     let mut rules: Rules = [0u32; 256];
-    match admit(sheet, input, variable, position, &mut rules) {
-        Sheet::Refused(_, _) => Err(Rejection::ReadingPair),
-        Sheet::Read(grammar) => {
-            judge(
-                &rules,
-                grammar.variables,
-                input,
-                variable,
-                position,
-                certificate,
-            )
-        }
-    }
+    let grammar = admit(sheet, input, variable, position, &mut rules)?;
+    judge(&rules, grammar.variables, input, variable, position, certificate)
 }

@@ -1,6 +1,6 @@
 use native.Mathlib.Omega.{arith}
 use Rattle.grammar.specs.Words.{rule_in}
-use Rattle.std.proofs.lemmas.Result.{err_from_is_err_and}
+use Rattle.grammar.proofs.HandedOn.{handed_on}
 use Rattle.checker.proofs.Progress.{refuses}
 use Rattle.checker.proofs.check_lines.Goals as goal
 
@@ -8,5 +8,4 @@ pub returns-in_err-check_line : goal.returns-in_err-check_line
 returns-in_err-check_line c =
     let a = c.args in
     let l = c.loop-passed in
-    let p = err_from_is_err_and c.from_residual.result c.from_residual.ensures.1 in
-    rw (p.1, p.2) (refuses (rule_in a.rules.now) a.variables a.input.now a.certificate.now l.passed a.count _ _ (omega arith) l.invariant c.in_err-check_line.ensures)
+    rw (handed_on c.from_residual.ensures.1) (refuses (rule_in a.rules.now) a.variables a.input.now a.certificate.now l.passed a.count _ _ (omega arith) l.invariant c.in_err-check_line.ensures)

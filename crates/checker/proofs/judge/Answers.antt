@@ -1,4 +1,4 @@
-use Rattle.std.proofs.lemmas.Result.{err_from_is_err_and}
+use Rattle.grammar.proofs.HandedOn.{handed_on}
 use Rattle.grammar.specs.Words.{rule_in}
 use Rattle.schema.specs.Derivation.{◌at◌}
 use Rattle.checker.proofs.Certificate.{judged_length, judged_line, judged_last}
@@ -14,8 +14,7 @@ returns-then-certificate-ne0 c =
 pub returns-in_err-check_lines : goal.returns-in_err-check_lines
 returns-in_err-check_lines c =
     let a = c.args in
-    let p = err_from_is_err_and c.from_residual.result c.from_residual.ensures.1 in
-    rw (p.1, p.2) (judged_line (rule_in a.rules.now) a.variables a.input.now (a.variable at a.position) a.certificate.now c.if-certificate-ne0.false c.in_err-check_lines.ensures)
+    rw (handed_on c.from_residual.ensures.1) (judged_line (rule_in a.rules.now) a.variables a.input.now (a.variable at a.position) a.certificate.now c.if-certificate-ne0.false c.in_err-check_lines.ensures)
 
 pub returns : goal.returns
 returns c =
