@@ -1,8 +1,8 @@
 -- The second call of a pair, by the cell of the first, and the first's cell read again. Assumes nothing.
 use mathlib.Core.Path.{◌≡◌, sym, ap, ◌∙◌, subst}
 use mathlib.Core.List.{List}
-use mathlib.Core.Logic.{inl, inr, ◌≢◌}
-use Prim.Native.Nat.{ℕ, ◌-◌, max, ◌≤◌}
+use mathlib.Core.Logic.{◌≢◌}
+use Prim.Native.Nat.{ℕ, ◌-◌, max}
 use borrow.Author.Tests.{eq-eqb, ne_eqb}
 use Rattle.grammar.specs.Rule.{call}
 use Rattle.grammar.specs.Words.{rule_in, first_in}
@@ -11,14 +11,9 @@ use Rattle.schema.specs.Cells.{reach_at, stored, HasCell}
 use Rattle.schema.specs.Derivation.{◌at◌, second}
 use Rattle.schema.specs.Table.{cell}
 use Rattle.cells.specs.declared.Cell.{Cell}
-use Rattle.step.specs.Codes.{Code, result_of}
+use Rattle.step.specs.Codes.{result_of}
 use Rattle.step.specs.Step.{top_of, SettleReady, SettlesTop}
 use Rattle.step.specs.declared.State.{State}
-
--- A code that is not that of a failure is that of a success.
-pub code_large : (c : ℕ) → Code c → c ≢ 1 → 5 ≤ c
-code_large c (inl e) d = absurd (d e)
-code_large c (inr l) d = l
 
 -- The second call after a failure,
 pub after_failure : (C D p c r : ℕ) → c ≡ 1 → r ≡ D → r at p ≡ second C D p (result_of c)

@@ -34,10 +34,7 @@ success_settled n c (inr f) l d = absurd (d f)
 pub leaf_end : (rule : ℕ → Rule) (s : List ℕ) (A p q : ℕ) → p ≤ length s → act rule s (A at p) ≡ gives (success q) → q ≤ length s
 leaf_end rule s A p q l e = (derives_ends rule s {x = A at p} l (leaf e)).1
 
--- A cell is new where it is blank.
-pub fresh_blank : (c : ℕ) → c ≡ 0 → fresh c ≡ 1
-fresh_blank c e = rw (eq-eqb c 0 e) refl
-
+-- A cell is new only where it is blank.
 pub fresh_not : (c : ℕ) → c ≢ 0 → fresh c ≡ 0
 fresh_not c d = rw (ne_eqb c 0 d) refl
 

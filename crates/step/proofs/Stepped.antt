@@ -5,7 +5,7 @@ use mathlib.Core.List.{List}
 use mathlib.Core.Logic.{inl, inr}
 use Prim.Native.Nat.{ℕ, max, ◌≤◌, ◌<◌}
 use native.Mathlib.Omega.{arith}
-use lib.ListN.{length, set}
+use lib.ListN.{length}
 use Rattle.grammar.specs.Rule.{Rule, call}
 use Rattle.schema.specs.Cells.{stored, HasCell}
 use Rattle.schema.proofs.Cells.{stored_there}
@@ -13,13 +13,13 @@ use Rattle.schema.specs.Derivation.{Pair, ◌at◌, Result, calls, act, second}
 use Rattle.schema.specs.Table.{Within, cell, held, reach}
 use Rattle.schema.proofs.Closed.{calls_call}
 use Rattle.schema.proofs.Cell.{PairWithin, cell_below}
-use Rattle.cells.specs.Packed.{entry}
-use Rattle.step.specs.Codes.{Code, open_mark, Unsettled, Settled, Called, first_called, second_called, result_of}
-use Rattle.step.specs.Step.{LookedUp, settled_before, leaf_settled, top_of, called_of, StepReady, Settles, GoesBack, ToSecond, SettleReady, ResumeReady, Joins, Resumes, Opens, Steps}
+use Rattle.step.specs.Codes.{Code, Settled, Called, first_called, second_called, result_of}
+use Rattle.step.specs.Step.{LookedUp, settled_before, leaf_settled, top_of, called_of, StepReady, Settles, GoesBack, ToSecond, SettleReady, ResumeReady, Joins, Resumes, Steps}
 use Rattle.cells.specs.declared.Cell.{Cell}
 use Rattle.step.specs.declared.State.{State}
-use Rattle.step.specs.declared.Step.{Step}
-use Rattle.step.specs.declared.Step.TheVariants as step
+use Rattle.std.specs.declared.ops.ControlFlow.{ControlFlow}
+use Rattle.std.specs.declared.ops.ControlFlow.TheVariants.{Continue, Break}
+use Rattle.step.specs.declared.Walk.{Walk}
 use Rattle.step.specs.declared.Walk.TheVariants as walk
 use Rattle.step.proofs.Looking.{result_is}
 use Rattle.step.proofs.Within.{called_within}
@@ -115,7 +115,7 @@ module _ (rule : ℕ → Rule) (s : List ℕ) where
   module _ (T W : List ℕ) (x : State) (c : Cell) {r : Result} (code : Settled (length s) c.0 r) {T₁ : List ℕ} (found : LookedUp rule s T (called_of x) r T₁)
       (far : c.1 ≡ reach (length s) T₁ (called_of x)) (called : Called rule s T x.second (top_of x) (called_of x)) (l : HasCell T (cell (length s) (called_of x)))
       {T' : List ℕ} where
-    steps_second : x.second ≡ false → T' ≡ T₁ → (y : State) → ToSecond rule x c y → Steps rule s T W T' W x (step.On y)
+    steps_second : x.second ≡ false → T' ≡ T₁ → (y : State) → ToSecond rule x c y → Steps rule s T W T' W x (Continue y)
     steps_second e t y f = inl (record {
       first_call = e;
       r = r;
@@ -127,7 +127,7 @@ module _ (rule : ℕ → Rule) (s : List ℕ) where
       work_same = refl;
     })
 
-    steps_settle : x.second ≡ true → (m : ℕ) → T' ≡ stored T₁ (cell (length s) (top_of x)) c.0 m → Joins rule (length s) T₁ x c m → (z : Step) → GoesBack W x c z
+    steps_settle : x.second ≡ true → (m : ℕ) → T' ≡ stored T₁ (cell (length s) (top_of x)) c.0 m → Joins rule (length s) T₁ x c m → (z : ControlFlow Walk State) → GoesBack W x c z
         → Steps rule s T W T' W x z
     steps_settle e m t j z h = go z h
       where
@@ -144,17 +144,12 @@ module _ (rule : ℕ → Rule) (s : List ℕ) where
           work_same = refl;
         }
 
-        go : (z : Step) → GoesBack W x c z → Steps rule s T W T' W x z
-        go (step.On y) h = inr (inl (c.0, settles, h))
-        go (step.Ended (walk.Settled d)) h = (subst (Settles rule s T W T' W x) (sym h.0) settles, h.1)
-        go (step.Ended (walk.Loop A p B q d)) h = absurd h
-        go (step.Ended (walk.Missing A p d)) h = absurd h
+        go : (z : ControlFlow Walk State) → GoesBack W x c z → Steps rule s T W T' W x z
+        go (Continue y) h = inr (inl (c.0, settles, h))
+        go (Break (walk.Settled d)) h = (subst (Settles rule s T W T' W x) (sym h.0) settles, h.1)
+        go (Break (walk.Loop A p B q d)) h = absurd h
+        go (Break (walk.Missing A p d)) h = absurd h
 
-    pub steps_resume : (z : Step) → Resumes rule (length s) T₁ W T' x c z → Steps rule s T W T' W x z
+    pub steps_resume : (z : ControlFlow Walk State) → Resumes rule (length s) T₁ W T' x c z → Steps rule s T W T' W x z
     steps_resume z (inl h) = steps_settle h.0 h.1.0 h.1.1 h.1.2 z h.2
     steps_resume z (inr h) = subst (Steps rule s T W T' W x) (sym h.2.1) (steps_second h.0 h.1 h.2.0 h.2.2)
-
-  -- The called pair is opened.
-  pub opens_called : {T W T' W' : List ℕ} (x : State) → Unsettled (held (length s) T (called_of x)) → T' ≡ stored T (cell (length s) (called_of x)) open_mark 0
-      → W' ≡ set W x.depth (entry x.second (top_of x)) → Opens s T W T' W' x
-  opens_called x u t w = record { new = u; table_is = t; work_is = w }

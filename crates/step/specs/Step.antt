@@ -9,8 +9,8 @@ use Rattle.cells.specs.Packed.{entry}
 use Rattle.step.specs.Codes.{Code, open_mark, Unsettled, Settled, Called, Walkable, result_of}
 use Rattle.cells.specs.declared.Cell.{Cell}
 use Rattle.step.specs.declared.State.{State}
-use Rattle.step.specs.declared.Step.{Step}
-use Rattle.step.specs.declared.Step.TheVariants as step
+use Rattle.std.specs.declared.ops.ControlFlow.{ControlFlow}
+use Rattle.std.specs.declared.ops.ControlFlow.TheVariants.{Continue, Break}
 use Rattle.step.specs.declared.Walk.{Walk}
 use Rattle.step.specs.declared.Walk.TheVariants as walk
 
@@ -73,11 +73,11 @@ pub record Returns (W : List ℕ) (x y : State) : Type 0 where
   pub called_is : called_of y ≡ top_of x
 
 -- Back to the caller, or the end where there is none.
-abbrev pub GoesBack : List ℕ → State → Cell → Step → Type 0
-GoesBack W x c (step.On y) = Returns W x y
-GoesBack W x c (step.Ended (walk.Settled d)) = (d ≡ c.0) × (x.depth ≡ 0)
-GoesBack W x c (step.Ended (walk.Loop A p B q d)) = ⊥
-GoesBack W x c (step.Ended (walk.Missing A p d)) = ⊥
+abbrev pub GoesBack : List ℕ → State → Cell → ControlFlow Walk State → Type 0
+GoesBack W x c (Continue y) = Returns W x y
+GoesBack W x c (Break (walk.Settled d)) = (d ≡ c.0) × (x.depth ≡ 0)
+GoesBack W x c (Break (walk.Loop A p B q d)) = ⊥
+GoesBack W x c (Break (walk.Missing A p d)) = ⊥
 
 -- y is x with the second call next: that of C where the first one ended, or of D where the pair stands.
 abbrev pub ToSecond : (ℕ → Rule) → State → Cell → State → Type 0
@@ -115,10 +115,10 @@ abbrev pub SettlesTop : (ℕ → Rule) → ℕ → List ℕ → List ℕ → Sta
 SettlesTop rule n T T' x c = (m : ℕ) × (T' ≡ stored T (cell n (top_of x)) c.0 m) × Joins rule n T x c m
 
 -- and what it does.
-abbrev pub Resumes : (ℕ → Rule) → ℕ → List ℕ → List ℕ → List ℕ → State → Cell → Step → Type 0
+abbrev pub Resumes : (ℕ → Rule) → ℕ → List ℕ → List ℕ → List ℕ → State → Cell → ControlFlow Walk State → Type 0
 Resumes rule n T W T' x c r =
     ((x.second ≡ true) × SettlesTop rule n T T' x c × GoesBack W x c r)
-    ⊎ ((x.second ≡ false) × (T' ≡ T) × ((y : State) × (r ≡ step.On y) × ToSecond rule x c y))
+    ⊎ ((x.second ≡ false) × (T' ≡ T) × ((y : State) × (r ≡ Continue y) × ToSecond rule x c y))
 
 -- The called pair is opened, and its caller noted.
 pub record Opens (s T W T' W' : List ℕ) (x : State) : Type 0 where
@@ -158,7 +158,7 @@ StepEnds rule s T W T' W' x (walk.Loop A p B q d) = Repeats s T W T' W' x (A at 
 StepEnds rule s T W T' W' x (walk.Missing A p d) = Opens s T W T' W' x × Stuck rule s x missing (A at p) d
 
 -- One step from x.
-abbrev pub Steps : (ℕ → Rule) → List ℕ → List ℕ → List ℕ → List ℕ → List ℕ → State → Step → Type 0
-Steps rule s T W T' W' x (step.On y) =
+abbrev pub Steps : (ℕ → Rule) → List ℕ → List ℕ → List ℕ → List ℕ → List ℕ → State → ControlFlow Walk State → Type 0
+Steps rule s T W T' W' x (Continue y) =
     Seconds rule s T W T' W' x y ⊎ (((c : ℕ) × Settles rule s T W T' W' x c × Returns W x y) ⊎ (Opens s T W T' W' x × Descends rule s x y))
-Steps rule s T W T' W' x (step.Ended r) = StepEnds rule s T W T' W' x r
+Steps rule s T W T' W' x (Break r) = StepEnds rule s T W T' W' x r

@@ -13,6 +13,8 @@ ghost use Rattle.step.specs.Step.{top_of, called_of, StepReady, ToSecond, GoesBa
 use cells::{Caller, Cell, cell_number};
 use grammar::sheet::Rules;
 use rules::{Act, act_at, first_of, leaf_reach, second_of};
+use std::ops::ControlFlow;
+use std::ops::ControlFlow::{Break, Continue};
 
 // Where the walk stands: the latest open pair; the pair that it calls, a variable and its position, the target; whether that is its second call;
 // and how many callers the work slice holds.
@@ -35,12 +37,8 @@ pub enum Walk {
     Missing(u32, u32, usize),
 }
 
-// What a step comes to.
-#[derive(Drop)]
-pub enum Step {
-    On(State),
-    Ended(Walk),
-}
+// What a step comes to: the next state, or what the walk ends with.
+pub type Step = ControlFlow<Walk, State>;
 
 // The state at the caller that an entry of the work slice holds, once the top of x is settled.
 fn caller_of(x: State, entry: u32, depth: usize) -> State
@@ -63,24 +61,18 @@ fn to_second(rules: &Rules, x: State, first: Cell) -> State
     ensures { ToSecond (rule_in rules.now) x first result }
 {
     if first.0 == Cell::FAILURE.0 {
-        let d = second_of(rules, x.variable, false);
         return State {
-            variable: x.variable,
-            position: x.position,
-            called: d,
+            called: second_of(rules, x.variable, false),
             target: x.position,
             second: true,
-            depth: x.depth,
+            ..x
         };
     }
-    let c = second_of(rules, x.variable, true);
     State {
-        variable: x.variable,
-        position: x.position,
-        called: c,
+        called: second_of(rules, x.variable, true),
         target: first.0 - Cell::SUCCESS.0,
         second: true,
-        depth: x.depth,
+        ..x
     }
 }
 
@@ -120,10 +112,10 @@ fn settle_top(
     let cell = second.reaching(first.1);
     cell.store(table, cell_number(n, x.variable, x.position));
     if x.depth == 0 {
-        return Step::Ended(Walk::Settled(cell.0));
+        return Break(Walk::Settled(cell.0));
     }
     let depth = x.depth - 1;
-    Step::On(caller_of(x, work[depth], depth))
+    Continue(caller_of(x, work[depth], depth))
 }
 
 // Goes on with the result of the called pair: to the second call, or back to the caller with the latest open pair settled.
@@ -134,7 +126,7 @@ fn resume(rules: &Rules, n: usize, table: &mut [u32], work: &[u32], x: State, ce
     if x.second {
         return settle_top(rules, n, table, work, x, cell);
     }
-    Step::On(to_second(rules, x, cell))
+    Continue(to_second(rules, x, cell))
 }
 
 // Settles the called pair, a leaf, in place, and goes on with its result.
@@ -174,7 +166,7 @@ fn advance_unsettled(
         }
         Act::Calls(b, _, _) => {
             open_called(n, table, work, x);
-            Step::On(State {
+            Continue(State {
                 variable: x.called,
                 position: x.target,
                 called: b,
@@ -185,7 +177,7 @@ fn advance_unsettled(
         }
         Act::Missing => {
             open_called(n, table, work, x);
-            Step::Ended(Walk::Missing(x.called, x.target, x.depth + 1))
+            Break(Walk::Missing(x.called, x.target, x.depth + 1))
         }
     }
 }
@@ -212,7 +204,7 @@ pub fn advance(
     }
     if found.0 == Cell::OPEN.0 {
         let end = Walk::Loop(x.called, x.target, x.variable, x.position, x.depth);
-        return Step::Ended(end);
+        return Break(end);
     }
     resume(rules, n, table, work, x, found)
 }
@@ -222,8 +214,6 @@ pub fn newly(n: usize, table: &[u32], variable: u32, position: u32) -> u32
     requires { (1 ≤ variable) × (variable ≤ 256) × (n ≤ 4096) × (position ≤ n) × HasCell table.now (cell n (variable at position)) }
     ensures { result ≡ fresh (held n table.now (variable at position)) }
 {
-    if Cell::load(table, cell_number(n, variable, position)).0 == Cell::BLANK.0 {
-        return 1;
-    }
-    0
+    let cell = Cell::load(table, cell_number(n, variable, position));
+    u32::from(cell.0 == Cell::BLANK.0)
 }

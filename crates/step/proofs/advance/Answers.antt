@@ -11,7 +11,6 @@ use Rattle.step.specs.Codes.{Fits, Settled}
 use Rattle.step.specs.Step.{called_of, settled_before}
 use Rattle.step.proofs.Looking.{held_is, reach_is, failure_settled, success_settled}
 use Rattle.step.proofs.Stepped.{step_bounds, resume_ready, steps_resume}
-use borrow.Author.Rules.{rules}
 use Rattle.step.proofs.advance.Goals as goal
 
 pub cell_number-requires : goal.cell_number-requires
@@ -37,20 +36,6 @@ returns-then-found c =
     let far = reach_is n a.table.now (called_of a.x) _ _ c.load-found.ensures.1 c.cell_number.ensures in
     let m = failure_settled n c.load-found.result.0 c.if-found.true in
     steps_resume (rule_in a.rules.now) a.input.now a.table.now a.work.now a.x c.load-found.result {r = failure} m (settled_before (failure_settled n _ (e ∙ c.if-found.true))) far r.called (step_bounds r).called_cell c.resume.result c.resume.ensures
-
-pub advance_unsettled-requires : goal.advance_unsettled-requires
-advance_unsettled-requires c =
-    let a = c.args in
-    let n = length a.input.now in
-    let e = held_is n a.table.now (called_of a.x) _ _ c.load-found.ensures.0 c.cell_number.ensures in
-    (c.requires, rw e (record { no_failure = c.if-found.false; no_success = c.if-found-2.true }))
-
-pub returns-then-found-3 : goal.returns-then-found-3
-returns-then-found-3 c =
-    let a = c.args in
-    let n = length a.input.now in
-    let e = held_is n a.table.now (called_of a.x) _ _ c.load-found.ensures.0 c.cell_number.ensures in
-    record { opened = e ∙ c.if-found-3.true; pair_is = refl; caller_is = refl; depth_is = refl; table_same = refl; work_same = refl }
 
 pub resume-requires-2 : goal.resume-requires-2
 resume-requires-2 c = resume_ready c.requires _ refl _ (inr (omega (arith, c.if-found-2.false)))

@@ -11,8 +11,7 @@ use Rattle.schema.proofs.Examined.{success_reach}
 use Rattle.step.specs.Codes.{Settled}
 use Rattle.step.specs.Step.{called_of, leaf_settled}
 use Rattle.step.proofs.Looking.{failure_settled, leaf_end}
-use Rattle.step.proofs.Stepped.{step_bounds, resume_ready, steps_resume, opens_called}
-use borrow.Author.Rules.{rules}
+use Rattle.step.proofs.Stepped.{step_bounds, resume_ready, steps_resume}
 use Rattle.step.proofs.advance_unsettled.Goals as goal
 
 pub act_at-requires : goal.act_at-requires
@@ -86,13 +85,3 @@ returns-in-Failure c =
     let s = failure_settled (length a.input.now) c.failure.result.0 c.failure.ensures.0 in
     let far = sym (stored_reach a.table.now (cell (length a.input.now) (called_of a.x)) c.failure.result.0 c.failure.result.1 b.called_cell) in
     steps_resume (rule_in a.rules.now) a.input.now a.table.now a.work.now a.x c.failure.result {r = failure} s (leaf_settled c.requires.1 e s f) far r.called b.called_cell c.settle_leaf-in-Failure.result c.settle_leaf-in-Failure.ensures
-
-pub returns-in-Calls : goal.returns-in-Calls
-returns-in-Calls c =
-    let a = c.args in
-    inr (inr (opens_called (rule_in a.rules.now) a.input.now a.x c.requires.1 c.open_called.ensures.opens c.open_called.ensures.notes, record { C = _; D = _; acts = sym c.act_at.ensures ∙ ap told c.in-Calls.is; top_is = refl; target_is = refl; first_call = refl; depth_is = refl }))
-
-pub returns-in-Missing : goal.returns-in-Missing
-returns-in-Missing c =
-    let a = c.args in
-    (opens_called (rule_in a.rules.now) a.input.now a.x c.requires.1 c.open_called-in-Missing.ensures.opens c.open_called-in-Missing.ensures.notes, record { acts = sym c.act_at.ensures ∙ ap told c.in-Missing.is; pair_is = refl; depth_is = refl })

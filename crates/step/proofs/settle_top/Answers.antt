@@ -1,6 +1,5 @@
 use native.Mathlib.Omega.{arith}
 use Rattle.step.proofs.Calls.{first_has, settles_top}
-use borrow.Author.Rules.{rules}
 use Rattle.step.proofs.settle_top.Goals as goal
 
 pub load-first-requires : goal.load-first-requires
