@@ -1,29 +1,24 @@
 -- Closing the open cells one by one, along the trail. Assumes nothing.
 use mathlib.Core.Path.{◌≡◌, refl, sym, ap, ◌∙◌, subst}
-use mathlib.Core.Bool.{Bool, cond}
+use mathlib.Core.Bool.{Bool}
 use mathlib.Core.List.Memᴰ
-use mathlib.Core.List.{List, [], ◌∷◌, Memᴰ}
+use mathlib.Core.List.{List, [], ◌∷◌, reverse, Memᴰ}
 use mathlib.Core.Logic.{◌⊎◌, inl, inr, ◌≢◌}
-use Prim.Native.Nat.{ℕ, suc, ◌*◌, ◌/◌, ◌%◌, ◌≤◌, ◌<◌}
+use Prim.Native.Nat.{ℕ, suc, ◌+◌, ◌-◌, ◌*◌, ◌/◌, ◌%◌, ◌≤◌, ◌<◌}
 use native.Mathlib.Decide.{ℕ_discrete}
 use native.Mathlib.Omega.{arith}
-use lib.Dec.{eqb}
-use lib.ListN.{length, get_or, drop}
-use borrow.Author.Tests.{ne_eqb}
-use Rattle.calls.proofs.Table.{Mark, opened, settled, cost, weight, weight_falls}
+use lib.ListN.{length, get_or, take, drop}
+use Rattle.std.proofs.lemmas.Grind.{common_steps}
+use Rattle.std.proofs.lemmas.List.{length-take-le, length-reverse, get_or-reverse, get_or-take, get_or_default}
 use Rattle.schema.specs.Cells.{held_at, reach_at, stored, HasCell}
-use Rattle.schema.proofs.Cells.{stored_there, stored_reach, stored_elsewhere, reach_elsewhere, stored_later, stored_length, view, view_stored}
-use Rattle.schema.specs.Derivation.{Pair, ◌at◌, Result, failure}
+use Rattle.schema.proofs.Cells.{stored_there, stored_reach, stored_elsewhere, reach_elsewhere, stored_later, stored_length}
+use Rattle.schema.specs.Derivation.{Pair, ◌at◌}
 use Rattle.schema.specs.Table.{Within, cell, cells, held}
 use Rattle.schema.proofs.Cell.{pair_of, PairWithin, cell_below, cell_one, cell_pair, pair_within}
 use Rattle.cells.specs.Packed.{entry}
 use Rattle.step.specs.Codes.{open_mark}
 use Rattle.finish.specs.Closing.{Trail, only_asked, called_by, CloseReady, Closes}
 use Rattle.finish.proofs.Entry.{entry_parts}
-
--- Open, or not: what is still to be closed.
-unfoldable pub open_or : ℕ → Mark Result
-open_or c = cond (eqb c open_mark) opened (settled failure)
 
 -- With no caller in the work slice the asked pair is the only one;
 at_asked : {W : List ℕ} {root y : Pair} {ps : List Pair} → Trail W root 0 (y ∷ ps) → ps ≡ []
@@ -54,6 +49,28 @@ pub record Closing (n v c m : ℕ) (T₀ T W : List ℕ) (a p d : ℕ) : Type 0 
   pub done : (i : ℕ) → i < cells v n → held_at T₀ i ≡ open_mark → ((held_at T i ≡ c) × (reach_at T i ≡ m)) ⊎ Memᴰ (pair_of n i) ((a at p) ∷ rest)
   pub later : drop (2 * cells v n) T ≡ drop (2 * cells v n) T₀
   pub size : length T ≡ length T₀
+
+-- Once the cell of a at p is closed, which was so before in the table `before`; the cells of `done` callers of `depth` are.
+pub record Closed (n v c m depth : ℕ) (T₀ T W : List ℕ) (done : ℕ) : Type 0 where
+  pub a : ℕ
+  pub p : ℕ
+  pub before : List ℕ
+  pub left : ℕ
+  pub closing : Closing n v c m T₀ before W a p left
+  pub left_is : left + done ≡ depth
+  pub table_is : T ≡ stored before (cell n (a at p)) c m
+
+-- w is the k-th of the first d numbers from their end.
+abbrev pub FromEnd : List ℕ → ℕ → ℕ → ℕ → Type 0
+FromEnd W d k w = (k < length (reverse (take d W))) × (w ≡ get_or (reverse (take d W)) k w)
+
+from_end : (W : List ℕ) (d k : ℕ) {w : ℕ} → d ≤ length W → FromEnd W d k w → (k < d) × (w ≡ get_or W (d - (k + 1)) 0)
+from_end W d k {w} l h =
+    let few : length (take d W) ≡ d = length-take-le d W l in
+    let more = h.0 in
+    let size = length-reverse (take d W) in
+    let turned = get_or-reverse (take d W) k w (omega arith) in
+    (omega arith, grind (arith, common_steps, get_or-take, get_or_default))
 
 module _ {n v B q c m depth : ℕ} {T₀ W : List ℕ} (r : CloseReady n v B q depth c m T₀ W) where
   within_pair : (y : Pair) → Memᴰ y ((B at q) ∷ r.rest) → PairWithin v n y
@@ -92,13 +109,6 @@ module _ {n v B q c m depth : ℕ} {T₀ W : List ℕ} (r : CloseReady n v B q d
     top_open : held_at T (cell n (a at d)) ≡ open_mark
     top_open = g.open_all (a at d) (Memᴰ.head refl)
 
-    pub close_falls : weight (view open_or (stored T (cell n (a at d)) c m)) (cells v n) < weight (view open_or T) (cells v n)
-    unfolding cost open_or
-    close_falls =
-        let o = ap (λ (k : ℕ). cost (open_or k)) top_open in
-        let z = ap cost (ap (λ t. cond t opened (settled failure)) (ne_eqb c open_mark r.not_open)) in
-        weight_falls (cells v n) top_below (view_stored open_or T (cell n (a at d)) c m top_in) (omega arith)
-
     -- What is so of the table once the cell is closed.
     kept_after : (i : ℕ) → held_at T₀ i ≢ open_mark
         → (held_at (stored T (cell n (a at d)) c m) i ≡ held_at T₀ i) × (reach_at (stored T (cell n (a at d)) c m) i ≡ reach_at T₀ i)
@@ -126,7 +136,7 @@ module _ {n v B q c m depth : ℕ} {T₀ W : List ℕ} (r : CloseReady n v B q d
         ]
 
     -- The asked pair was the last.
-    pub closes : left ≡ 0 → Closes (cells v n) c T₀ (stored T (cell n (a at d)) c m)
+    closes : left ≡ 0 → Closes (cells v n) c T₀ (stored T (cell n (a at d)) c m)
     closes e =
         let none = at_asked (subst (λ (k : ℕ). Trail W g.root k ((a at d) ∷ g.rest)) e g.trail) in
         record {
@@ -140,7 +150,7 @@ module _ {n v B q c m depth : ℕ} {T₀ W : List ℕ} (r : CloseReady n v B q d
         }
 
     -- Its caller is next.
-    pub goes_on : (under : ℕ) → left ≡ suc under
+    goes_on : (under : ℕ) → left ≡ suc under
         → Closing n v c m T₀ (stored T (cell n (a at d)) c m) W (get_or W under 0 / 16384) (get_or W under 0 / 2 % 8192) under
     goes_on under down = next (next_of (subst (λ (k : ℕ). Trail W g.root k ((a at d) ∷ g.rest)) down g.trail))
       where
@@ -172,3 +182,34 @@ module _ {n v B q c m depth : ℕ} {T₀ W : List ℕ} (r : CloseReady n v B q d
                   later = stored_later (cells v n) T (cell n (a at d)) c m top_below ∙ g.later;
                   size = stored_length T (cell n (a at d)) c m ∙ g.size;
                 })
+
+  -- With no caller left every cell is closed;
+  pub closed_all : {T : List ℕ} {done : ℕ} → Closed n v c m depth T₀ T W done → done ≡ depth → Closes (cells v n) c T₀ T
+  closed_all k e = let l = k.left_is in subst (Closes (cells v n) c T₀) (sym k.table_is) (closes k.closing (omega arith))
+
+  -- else the next is the caller w.
+  module _ {T : List ℕ} {done w : ℕ} (k : Closed n v c m depth T₀ T W done) (h : FromEnd W depth done w) where
+    pub next_caller : Closing n v c m T₀ T W (w / 16384) (w / 2 % 8192) (depth - (done + 1))
+    next_caller =
+        let l = k.left_is in
+        let d = r.deep in
+        let o = r.work_room in
+        let e = from_end W depth done (omega arith) h in
+        let f = e.0 in
+        rw (k.table_is, e.1) (goes_on k.closing (depth - (done + 1)) (omega arith))
+
+    pub closed_next : {T' : List ℕ} {more : ℕ} → T' ≡ stored T (cell n ((w / 16384) at (w / 2 % 8192))) c m → more ≡ done + 1
+        → Closed n v c m depth T₀ T' W more
+    closed_next e f =
+        let d = r.deep in
+        let o = r.work_room in
+        let l = (from_end W depth done (omega arith) h).0 in
+        record {
+          a = w / 16384;
+          p = w / 2 % 8192;
+          before = T;
+          left = depth - (done + 1);
+          closing = next_caller;
+          left_is = omega arith;
+          table_is = e;
+        }

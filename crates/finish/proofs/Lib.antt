@@ -1,4 +1,3 @@
 -- Laws of the end of a question.
 pub mod Entry
 pub mod Closing
-pub mod Finished

@@ -1,10 +1,9 @@
 -- What the last step of a question does: it closes what the walk left open, and answers. Assumes nothing.
 use Rattle.std.specs.Prelude.{List, ◌≢◌, ◌≡◌, ℕ, ◌*◌, ◌≤◌, ◌<◌, length}
-use Rattle.grammar.specs.Refusal.{accepted}
 use Rattle.schema.specs.Cells.{held_at}
 use Rattle.schema.specs.Table.{cells, code}
 use Rattle.step.specs.Codes.{Code, open_mark}
-use Rattle.finish.specs.Reply.{reply, told}
+use Rattle.finish.specs.Reply.{reply, reply_of}
 use Rattle.finish.specs.Closing.{outcome_of, named_of, CloseReady, Closes}
 use Rattle.finish.specs.declared.Answer.{Answer}
 use Rattle.step.specs.declared.Walk.{Walk}
@@ -27,4 +26,4 @@ FinishReady n v T W (walk.Missing B q d) = CloseReady n v B q d (code (outcome_o
 -- The open cells hold the outcome, and the answer has the count.
 pub record Finishes (n v : ℕ) (end : Walk) (count : ℕ) (T T' : List ℕ) (r : Answer) : Type 0 where
   pub closes : Closes (cells v n) (code (outcome_of end)) T T'
-  pub says : told r ≡ accepted (reply (outcome_of end) (named_of end) count)
+  pub says : reply_of r ≡ reply (outcome_of end) (named_of end) count

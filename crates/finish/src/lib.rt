@@ -2,11 +2,10 @@
 #![tactic(auto)]
 
 ghost use Rattle.std.specs.Prelude.{◌≡◌};
-ghost use Rattle.grammar.specs.Refusal.{accepted};
 ghost use Rattle.schema.specs.Derivation.{◌at◌, result as derived};
 ghost use Rattle.schema.specs.Table.{cells};
 ghost use Rattle.step.specs.Codes.{Code, result_of};
-ghost use Rattle.finish.specs.Reply.{told, reply};
+ghost use Rattle.finish.specs.Reply.{reply, reply_of};
 ghost use Rattle.finish.specs.Closing.{CloseReady, Closes};
 ghost use Rattle.finish.specs.Finish.{FinishReady, Finishes};
 
@@ -14,14 +13,13 @@ use cells::{Caller, Cell, cell_number};
 use step::Walk;
 
 // What a question is answered, with the count of decided cells: success with its end, failure; loop or a missing rule
-// with the variable and the position that are named; or the number and the line of a refusal.
+// with the variable and the position that are named.
 #[derive(Clone, Copy)]
 pub enum Answer {
     Success(u32, u32),
     Failure(u32),
     Loop(u32, u32, u32),
     Missing(u32, u32, u32),
-    Refused(u32, u32),
 }
 
 // Stores an outcome in every open cell, from that of b at q back to the asked pair, by the callers in the work slice.
@@ -38,25 +36,17 @@ fn close(
     requires { CloseReady n variables b q depth outcome.0 outcome.1 table.old work.now }
     ensures { Closes (cells variables n) outcome.0 table.old table.new }
 {
-    let mut a = b;
-    let mut p = q;
-    let mut left = depth;
-    loop {
-        outcome.store(table, cell_number(n, a, p));
-        if left == 0 {
-            return;
-        }
-        left -= 1;
-        let caller = Caller::unpack(work[left]);
-        a = caller.variable;
-        p = caller.position;
+    outcome.store(table, cell_number(n, b, q));
+    for word in work[..depth].iter().rev() {
+        let caller = Caller::unpack(*word);
+        outcome.store(table, cell_number(n, caller.variable, caller.position));
     }
 }
 
 // The answer of the number of a result.
 fn settled(code: u32, count: u32) -> Answer
     requires { Code code }
-    ensures { told result ≡ accepted (reply (derived (result_of code)) (0 at 0) count) }
+    ensures { reply_of result ≡ reply (derived (result_of code)) (0 at 0) count }
 {
     if code == Cell::FAILURE.0 {
         return Answer::Failure(count);

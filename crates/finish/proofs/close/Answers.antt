@@ -1,67 +1,69 @@
-use mathlib.Core.Path.{◌≡◌, sym, ap, ◌∙◌, subst}
-use Prim.Native.Nat.{ℕ, suc, ◌-◌}
+use mathlib.Core.Path.{sym, ap, ◌∙◌, subst}
+use Prim.Native.Nat.{ℕ}
 use native.Mathlib.Omega.{arith}
-use lib.ListN.{length}
-use Rattle.calls.proofs.Table.{weight}
+use lib.ListN.{take}
+use Rattle.std.proofs.lemmas.Iterator.Adapters.{YieldsList-from_rev_slice}
+use Rattle.std.proofs.lemmas.Iterator.Consumers.{YieldsList-turn, YieldsList-end}
+use Rattle.std.proofs.lemmas.List.{length_push, length-reverse, length-take-le}
 use Rattle.schema.specs.Cells.{stored, HasCell}
-use Rattle.schema.proofs.Cells.{stored_length, view}
-use Rattle.schema.specs.Table.{cells}
-use Rattle.finish.proofs.Closing.{open_or, Closing, begins, top_within, top_in, close_falls, closes, goes_on}
-use borrow.Author.Rules.{rules}
+use Rattle.finish.proofs.Closing.{begins, top_within, top_in, closed_all, next_caller, closed_next}
 use Rattle.finish.proofs.close.Goals as goal
-
-pub loop-left-init : goal.loop-left-init
-loop-left-init c = begins c.requires
 
 pub cell_number-requires : goal.cell_number-requires
 cell_number-requires c =
     let r = c.requires in
-    let i = top_within r c.loop-left.invariant in
+    let i = top_within r (begins r) in
     let f = r.few in
     let h = i.variable.1 in
     (i.variable.0, omega arith, r.short, i.position)
 
 pub store-requires : goal.store-requires
-store-requires c = subst (HasCell c.loop-left.table) (sym c.cell_number.ensures) (top_in c.requires c.loop-left.invariant)
+store-requires c = subst (HasCell c.args.table.now) (sym c.cell_number.ensures) (top_in c.requires (begins c.requires))
 
-pub shape_of-table-then-left-eq0 : goal.shape_of-table-then-left-eq0
-shape_of-table-then-left-eq0 c = ap length c.store.ensures ∙ simp stored_length c.loop-left.invariant.size
-
-pub returns-then-left-eq0 : goal.returns-then-left-eq0
-returns-then-left-eq0 c =
-    let L = c.loop-left in
+pub loop-word-init : goal.loop-word-init
+loop-word-init c =
     let a = c.args in
-    rw (c.store.ensures ∙ ap (λ (k : ℕ). stored L.table k a.outcome.0 a.outcome.1) c.cell_number.ensures) (closes c.requires L.invariant c.if-left-eq0.true)
+    record {
+      a = a.b;
+      p = a.q;
+      before = a.table.now;
+      left = a.depth;
+      closing = begins c.requires;
+      left_is = omega arith;
+      table_is = c.store.ensures ∙ ap (λ (k : ℕ). stored a.table.now k a.outcome.0 a.outcome.1) c.cell_number.ensures;
+    }
 
-pub overflow_sub-left : goal.overflow_sub-left
-overflow_sub-left c = omega (arith, c.if-left-eq0.false)
-
-pub offset_bounds-work-left : goal.offset_bounds-work-left
-offset_bounds-work-left c =
+pub cell_number-requires-in-loop-word : goal.cell_number-requires-in-loop-word
+cell_number-requires-in-loop-word c =
     let r = c.requires in
-    let L = c.loop-left in
-    let d = L.invariant.deep in
-    let m = r.work_room in
-    omega (arith, c.if-left-eq0.false)
-
-pub bounds-work-left : goal.bounds-work-left
-bounds-work-left c =
-    let r = c.requires in
-    let L = c.loop-left in
-    let d = L.invariant.deep in
-    let m = r.work_room in
-    omega (arith, c.if-left-eq0.false)
-
-pub loop-left-smaller : goal.loop-left-smaller
-loop-left-smaller c =
-    let L = c.loop-left in
-    let a = c.args in
-    rw (c.store.ensures ∙ ap (λ (k : ℕ). stored L.table k a.outcome.0 a.outcome.1) c.cell_number.ensures) (close_falls c.requires L.invariant)
-
-pub loop-left-preserved : goal.loop-left-preserved
-loop-left-preserved c =
-    let L = c.loop-left in
-    let a = c.args in
+    let t = YieldsList-turn (YieldsList-from_rev_slice (take c.args.depth c.args.work.now) (grind arith)) c.loop-word.yielded _ c.loop-word.yielded_by _ _ c.in-Some.word c.in-Some.is c.next.ensures.steps in
+    let i = top_within r (next_caller r c.loop-word.invariant t) in
     let u = c.unpack-caller.ensures in
-    let under : L.left ≡ suc (L.left - 1) = omega (arith, c.if-left-eq0.false) in
-    rw (u.0, u.1, c.store.ensures ∙ ap (λ (k : ℕ). stored L.table k a.outcome.0 a.outcome.1) c.cell_number.ensures) (goes_on c.requires L.invariant (L.left - 1) under)
+    let f = r.few in
+    let h = i.variable.1 in
+    rw (u.0, u.1) (i.variable.0, omega arith, r.short, i.position)
+
+pub store-requires-in-loop-word : goal.store-requires-in-loop-word
+store-requires-in-loop-word c =
+    let r = c.requires in
+    let t = YieldsList-turn (YieldsList-from_rev_slice (take c.args.depth c.args.work.now) (grind arith)) c.loop-word.yielded _ c.loop-word.yielded_by _ _ c.in-Some.word c.in-Some.is c.next.ensures.steps in
+    let u = c.unpack-caller.ensures in
+    rw (c.cell_number-in-loop-word.ensures, u.0, u.1) (top_in r (next_caller r c.loop-word.invariant t))
+
+pub loop-word-preserved : goal.loop-word-preserved
+loop-word-preserved c =
+    let a = c.args in
+    let t = YieldsList-turn (YieldsList-from_rev_slice (take a.depth a.work.now) (grind arith)) c.loop-word.yielded _ c.loop-word.yielded_by _ _ c.in-Some.word c.in-Some.is c.next.ensures.steps in
+    let u = c.unpack-caller.ensures in
+    closed_next c.requires c.loop-word.invariant t (rw (c.store-in-loop-word.ensures, c.cell_number-in-loop-word.ensures, u.0, u.1)) (length_push c.loop-word.yielded c.in-Some.word)
+
+pub returns : goal.returns
+returns c =
+    let a = c.args in
+    let r = c.requires in
+    let t = YieldsList-end (YieldsList-from_rev_slice (take a.depth a.work.now) (grind arith)) c.loop-word.yielded _ c.loop-word.yielded_by _ _ c.in-None.is c.next.ensures.steps in
+    let e = length-reverse (take a.depth a.work.now) in
+    let d = r.deep in
+    let o = r.work_room in
+    let f = length-take-le a.depth a.work.now (omega arith) in
+    closed_all r c.loop-word.invariant (t.1 ∙ e ∙ f)
