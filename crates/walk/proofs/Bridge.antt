@@ -8,7 +8,6 @@ use lib.ListN.{length}
 use Rattle.calls.proofs.Holding.{holding, holding_free}
 use Rattle.calls.proofs.Invariant.{Inv, Bounded, both_fits}
 use Rattle.calls.proofs.Numbered.{kind_number, first_number, second_number, join_number}
-use Rattle.calls.proofs.System as theory
 use Rattle.calls.proofs.System.{System}
 use Rattle.calls.proofs.Table.{settled}
 use Rattle.calls.proofs.Trail.{Link, link_first, link_second, Fits, leaf_fits}

@@ -12,11 +12,11 @@ use Rattle.schema.specs.Closed.{Closed}
 use Rattle.schema.specs.Derivation.{Pair, ◌at◌, Result}
 use Rattle.schema.specs.Table.{cell, cells, decided, held}
 use Rattle.schema.proofs.Cell.{cell_below}
-use Rattle.step.specs.Codes.{open_mark, Settled, fresh}
+use Rattle.step.specs.Codes.{open_mark, fresh}
 use Rattle.walk.specs.Walk.{Counts, before, WalkReady}
 use Rattle.step.specs.Step.{LookedUp, settled_before, leaf_settled, top_of, called_of, Settles, Opens, StepEnds, Steps}
 use Rattle.step.specs.declared.State.{State}
-use Rattle.step.specs.declared.Step.TheVariants as step
+use Rattle.std.specs.declared.ops.ControlFlow.TheVariants.{Continue}
 use Rattle.step.specs.declared.Walk.{Walk}
 use Rattle.step.specs.declared.Walk.TheVariants as walk
 use Rattle.step.proofs.Looking.{fresh_not}
@@ -72,7 +72,7 @@ module _ (rule : ℕ → Rule) (s : List ℕ) (v : ℕ) (closed : Closed v rule)
       omega arith
 
   -- and so every step.
-  pub on_counts : (T' W' : List ℕ) (z : State) → Steps rule s T W T' W' y (step.On z) → Counts N T T' new
+  pub on_counts : (T' W' : List ℕ) (z : State) → Steps rule s T W T' W' y (Continue z) → Counts N T T' new
   on_counts T' W' z (inl h) = looked_counts h.looked_up
   on_counts T' W' z (inr (inl h)) = settles_counts h.1
   on_counts T' W' z (inr (inr h)) = opens_counts h.0
@@ -103,7 +103,7 @@ module _ {rule : ℕ → Rule} {s : List ℕ} {v A p : ℕ} {T₀ W₀ : List �
     abbrev next : ℕ → Type 0
     next new = new ≡ fresh (held (length s) T (called_of y))
 
-    pub counts_on : (T' W' : List ℕ) (z : State) (new : ℕ) → next new → Steps rule s T W T' W' y (step.On z) → Counts (cells v (length s)) T₀ T' (count + new)
+    pub counts_on : (T' W' : List ℕ) (z : State) (new : ℕ) → next new → Steps rule s T W T' W' y (Continue z) → Counts (cells v (length s)) T₀ T' (count + new)
     counts_on T' W' z new e h =
         let a = on_counts rule s v r.walkable.closed r.walkable.few r.walkable.short g.standing (room_before r) T' W' z h in
         let b = g.counts in

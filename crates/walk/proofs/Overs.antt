@@ -6,7 +6,6 @@ use Prim.Native.Nat.{ℕ, ◌+◌, ◌-◌, ◌*◌, ◌≤◌, ◌<◌}
 use native.Mathlib.Decide.{ℕ_discrete}
 use native.Mathlib.Omega.{arith}
 use lib.ListN.{length, drop}
-use Rattle.grammar.specs.Refusal.{Checked, accepted}
 use Rattle.grammar.specs.Rule.{Rule}
 use Rattle.schema.specs.Cells.{held_at, reach_at, stored, HasCell}
 use Rattle.schema.proofs.Cells.{stored_there, stored_elsewhere, reach_elsewhere, stored_later, stored_length}
@@ -18,7 +17,7 @@ use Rattle.schema.proofs.Answer.{reached_cell}
 use Rattle.schema.proofs.Cell.{PairWithin, cell_below}
 use Rattle.schema.proofs.Codes.{code_full}
 use Rattle.schema.proofs.Laws.{has_one}
-use Rattle.finish.specs.Reply.{Reply, reply, told}
+use Rattle.finish.specs.Reply.{reply, reply_of}
 use Rattle.finish.specs.Finish.{FinishReady, Finishes}
 use Rattle.walk.specs.Over.{OverReady, Over}
 use Rattle.step.specs.Codes.{open_mark, Unsettled, Settled, Fits, fresh}
@@ -211,10 +210,8 @@ module _ {rule : ℕ → Rule} {s : List ℕ} {v A p : ℕ} {T W : List ℕ} (r 
 
       -- What is answered.
       pub over_asked : (w : ℕ) → Counts (cells v (length s)) (stored T (cell (length s) (A at p)) open_mark 0) T₂ w → count ≡ fresh (held (length s) T (A at p)) + w
-          → Over rule v s (A at p) T T₃ W W₁ (told a)
-      over_asked w c e = record {
-        replies = reply (outcome_of end) (named_of end) count;
-        accepts = f.says;
+          → Over rule v s (A at p) T T₃ W W₁ (reply_of a)
+      over_asked w c e = subst (Over rule v s (A at p) T T₃ W W₁) (sym f.says) (record {
         later = f.closes.later ∙ h.table.later ∙ start_later;
         size = after_size;
         beyond = h.work_later;
@@ -231,7 +228,7 @@ module _ {rule : ℕ → Rule} {s : List ℕ} {v A p : ℕ} {T W : List ℕ} (r 
               says = ap (reply (outcome_of end) (named_of end)) newly_decided;
               leaves = leaves_after g;
             };
-      }
+      })
         where
           counted : decided N T₃ ≡ decided N T + count
           counted =
@@ -270,7 +267,7 @@ module _ {rule : ℕ → Rule} {s : List ℕ} {v A p : ℕ} {T W : List ℕ} (r 
         omega arith
 
     pub over_answer : {T₃ W₁ : List ℕ} {last : Walk} (a : Answer) → WalkEnds rule s v (A at p) (before (length s) (A at p) T₁) T₂ W W₁ last
-        → Finishes (length s) v last (m + w) T₂ T₃ a → Over rule v s (A at p) T T₃ W W₁ (told a)
+        → Finishes (length s) v last (m + w) T₂ T₃ a → Over rule v s (A at p) T T₃ W W₁ (reply_of a)
     over_answer {last = last} a h f = over_asked r free a (at_start last h) f w counts_start (ap (λ (k : ℕ). k + w) q)
 
 -- ---- The asked pair holds a result: that is the answer.
@@ -302,10 +299,8 @@ module _ {rule : ℕ → Rule} {s : List ℕ} {v A p : ℕ} {T W : List ℕ} (r 
         let h = reached_held i in
         (result h.0, right_at y h.0 (reached_cell rule s v r.closed (A at p) r.within i).0 h.1, h.1.code_is, reaching_pair rule s v T k.reaching y h.0 (reached_cell rule s v r.closed (A at p) r.within i).0 h.1)
 
-  pub over_settled : (a : Checked Reply) → a ≡ accepted (reply (result t) (0 at 0) 0) → Over rule v s (A at p) T T W W a
-  over_settled a e = record {
-    replies = reply (result t) (0 at 0) 0;
-    accepts = e;
+  pub over_settled : Over rule v s (A at p) T T W W (reply (result t) (0 at 0) 0)
+  over_settled = record {
     later = refl;
     size = refl;
     beyond = refl;

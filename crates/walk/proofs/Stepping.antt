@@ -12,7 +12,7 @@ use Rattle.grammar.specs.Rule.{Rule, call}
 use Rattle.schema.specs.Cells.{held_at, stored, HasCell}
 use Rattle.schema.proofs.Cells.{view}
 use Rattle.schema.specs.Closed.{Closed}
-use Rattle.schema.specs.Derivation.{Pair, ◌at◌, Result, success, failure, Stop, missing, gives, stops, calls, act, second, stopped, result, loop}
+use Rattle.schema.specs.Derivation.{Pair, ◌at◌, Result, success, failure, Stop, missing, gives, stops, calls, act, stopped, result, loop}
 use Rattle.schema.specs.Examined.{leaf_reach_of}
 use Rattle.schema.specs.Table.{cell, cells, held, reach}
 use Rattle.schema.proofs.Closed.{calls_call}
@@ -24,7 +24,7 @@ use Rattle.walk.specs.Walk.{before, WalkReady, WalkEnds, TableEnds, depth_of, St
 use Rattle.step.specs.Step.{LookedUp, settled_before, leaf_settled, top_of, called_of, StepReady, Seconds, Settles, Returns, Opens, Descends, Stuck, StepEnds, Steps}
 use Rattle.cells.specs.declared.Cell.{Cell}
 use Rattle.step.specs.declared.State.{State}
-use Rattle.step.specs.declared.Step.TheVariants as step
+use Rattle.std.specs.declared.ops.ControlFlow.TheVariants.{Continue}
 use Rattle.step.specs.declared.Walk.{Walk}
 use Rattle.step.specs.declared.Walk.TheVariants as walk
 use Rattle.step.proofs.Stepped.{looked_held}
@@ -286,7 +286,7 @@ module _ (rule : ℕ → Rule) (s : List ℕ) (v : ℕ) (closed : Closed v rule)
     -- ---- What a step leaves behind.
 
     -- The walk goes on,
-    pub steps_on : N ≤ length U → {T' W' : List ℕ} (z : State) → Steps rule s T W T' W' y (step.On z) → Standing rule s v x O U T' W' z × (to_do T' N z < to_do T N y)
+    pub steps_on : N ≤ length U → {T' W' : List ℕ} (z : State) → Steps rule s T W T' W' y (Continue z) → Standing rule s v x O U T' W' z × (to_do T' N z < to_do T N y)
     steps_on work_room z (inl h) = on_second h
     steps_on work_room z (inr (inl h)) = on_settle h.1 h.2
     steps_on work_room z (inr (inr h)) = on_open h.0 work_room h.1
@@ -367,7 +367,7 @@ module _ {rule : ℕ → Rule} {s : List ℕ} {v A p : ℕ} {T₀ W₀ : List �
       work_room = let m = r.work_room in let z = g.work_size in omega arith;
     }
 
-    pub goes_on : {T' W' : List ℕ} (y : State) → Steps rule s T W T' W' x (step.On y)
+    pub goes_on : {T' W' : List ℕ} (y : State) → Steps rule s T W T' W' x (Continue y)
         → Standing rule s v (A at p) O W₀ T' W' y × (to_do T' (cells v (length s)) y < to_do T (cells v (length s)) x)
     goes_on y h = steps_on rule s v closed r.walkable.few r.walkable.short g (room_before r) r.work_room y h
 

@@ -1,6 +1,5 @@
 -- Asking over the table as it is, nothing blanked: what is asked, and what is promised. Assumes nothing.
 use Rattle.std.specs.Prelude.{List, ◌≡◌, ℕ, ◌+◌, ◌-◌, ◌*◌, ◌≤◌, ◌<◌, length, drop}
-use Rattle.grammar.specs.Refusal.{Checked, accepted}
 use Rattle.grammar.specs.Rule.{Rule}
 use Rattle.schema.specs.Cells.{held_at}
 use Rattle.schema.specs.Closed.{Closed}
@@ -31,13 +30,11 @@ pub record OverAnswers (rule : ℕ → Rule) (v : ℕ) (input : List ℕ) (x : P
 
 -- From any table: a reply, whose count is of newly decided cells and whose outcome has a code of at most 5 + n, and nothing changed beyond the first
 -- cells.
-pub record Over (rule : ℕ → Rule) (v : ℕ) (input : List ℕ) (x : Pair) (table table' work work' : List ℕ) (r : Checked Reply) : Type 0 where
-  pub replies : Reply
-  pub accepts : r ≡ accepted replies
+pub record Over (rule : ℕ → Rule) (v : ℕ) (input : List ℕ) (x : Pair) (table table' work work' : List ℕ) (r : Reply) : Type 0 where
   pub later : drop (2 * cells v (length input)) table' ≡ drop (2 * cells v (length input)) table
   pub size : length table' ≡ length table
   pub beyond : drop (cells v (length input)) work' ≡ drop (cells v (length input)) work
   pub work_size : length work' ≡ length work
-  pub counts : Counts (cells v (length input)) table table' (count_of replies)
-  pub small : code (outcome_of replies) ≤ 5 + length input
-  pub from_right : RightTable rule input v table → OverAnswers rule v input x table table' replies
+  pub counts : Counts (cells v (length input)) table table' (count_of r)
+  pub small : code (outcome_of r) ≤ 5 + length input
+  pub from_right : RightTable rule input v table → OverAnswers rule v input x table table' r

@@ -8,7 +8,7 @@ ghost use Rattle.schema.specs.Derivation.{◌at◌, calls, act};
 ghost use Rattle.schema.specs.Table.{cell, cells, held};
 ghost use Rattle.step.specs.Codes.{Unsettled};
 ghost use Rattle.step.specs.declared.Walk.TheVariants.{Settled};
-ghost use Rattle.finish.specs.Reply.{told};
+ghost use Rattle.finish.specs.Reply.{reply_of};
 ghost use Rattle.walk.specs.Walk.{WalkReady, Counts, WalkEnds, before};
 ghost use Rattle.walk.specs.Over.{OverReady, Over};
 
@@ -16,7 +16,8 @@ use cells::{Cell, cell_number};
 use finish::{Answer, finish};
 use grammar::sheet::Rules;
 use rules::{Act, act_at, leaf_reach};
-use step::{State, Step, Walk, advance, newly};
+use std::ops::ControlFlow::{Break, Continue};
+use step::{State, Walk, advance, newly};
 
 // How a walk ended, and how many cells it gave their first number.
 #[derive(Drop)]
@@ -52,12 +53,8 @@ fn walk_on(
     loop {
         count += newly(input.len(), table, x.called, x.target);
         match advance(rules, input, variables, table, work, x) {
-            Step::On(next) => {
-                x = next;
-            }
-            Step::Ended(end) => {
-                return Walked { end, count };
-            }
+            Continue(next) => x = next,
+            Break(end) => return Walked { end, count },
         }
     }
 }
@@ -116,14 +113,13 @@ fn walk_over(
     work: &mut [u32],
 ) -> Answer
     requires { OverReady (rule_in rules.now) input.now variables variable position table.old work.old × Unsettled (held (length input.now) table.old (variable at position)) }
-    ensures { Over (rule_in rules.now) variables input.now (variable at position) table.old table.new work.old work.new (told result) }
+    ensures { Over (rule_in rules.now) variables input.now (variable at position) table.old table.new work.old work.new (reply_of result) }
 {
     let n = input.len();
     let asked = newly(n, table, variable, position);
     Cell::OPEN.store(table, cell_number(n, variable, position));
-    let walked = walk_from(rules, input, variable, position, variables, table, work);
-    let end = walked.end;
-    finish(n, variables, end, asked + walked.count, table, work)
+    let Walked { end, count } = walk_from(rules, input, variable, position, variables, table, work);
+    finish(n, variables, end, asked + count, table, work)
 }
 
 // Asks about a pair over the table as it is: a result that its cell holds is the answer, and anything else is walked.
@@ -137,7 +133,7 @@ pub fn ask_over(
     work: &mut [u32],
 ) -> Answer
     requires { OverReady (rule_in rules.now) input.now variables variable position table.old work.old }
-    ensures { Over (rule_in rules.now) variables input.now (variable at position) table.old table.new work.old work.new (told result) }
+    ensures { Over (rule_in rules.now) variables input.now (variable at position) table.old table.new work.old work.new (reply_of result) }
 {
     let asked = Cell::load(table, cell_number(input.len(), variable, position));
     if asked.0 == Cell::FAILURE.0 {

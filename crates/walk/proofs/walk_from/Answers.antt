@@ -10,12 +10,8 @@ use Rattle.step.specs.declared.Walk.TheVariants as walk
 use Rattle.walk.proofs.Counting.{asked_counts}
 use Rattle.step.proofs.Looking.{failure_settled, leaf_end}
 use Rattle.walk.proofs.Marks.{settled_full}
-use Rattle.walk.proofs.Stepping.{leaf_ends, stuck_first, asked_bounds}
-use borrow.Author.Rules.{rules}
+use Rattle.walk.proofs.Stepping.{leaf_ends, stuck_first}
 use Rattle.walk.proofs.walk_from.Goals as goal
-
-pub walk_on-requires : goal.walk_on-requires
-walk_on-requires c = (c.requires, (_, _, sym c.act_at.ensures ∙ ap told c.in-Calls.is))
 
 pub success-leaf-requires : goal.success-leaf-requires
 success-leaf-requires c =
@@ -25,20 +21,6 @@ success-leaf-requires c =
     let q = leaf_end (rule_in a.rules.now) a.input.now a.variable a.position _ r.within.position e in
     let w = r.walkable.short in
     omega arith
-
-pub settle_asked-end-requires : goal.settle_asked-end-requires
-settle_asked-end-requires c = asked_bounds c.requires
-
-pub leaf_reach-requires : goal.leaf_reach-requires
-leaf_reach-requires c =
-    let r = c.requires in
-    let b = asked_bounds r in
-    let n = b.2 in
-    let p = b.3 in
-    (b.0, b.1, omega arith)
-
-pub settle_asked-end-requires-in-Failure : goal.settle_asked-end-requires-in-Failure
-settle_asked-end-requires-in-Failure c = asked_bounds c.requires
 
 pub returns-in-Success : goal.returns-in-Success
 returns-in-Success c =

@@ -1,17 +1,13 @@
 use mathlib.Core.Path.{refl, ◌∙◌}
 use native.Mathlib.Omega.{arith}
 use lib.ListN.{length}
-use Rattle.grammar.specs.Words.{rule_in}
-use Rattle.schema.specs.Derivation.{◌at◌}
-use Rattle.schema.specs.Table.{cells, held}
+use Rattle.schema.specs.Table.{held}
 use Rattle.step.specs.Step.{called_of}
-use Rattle.walk.specs.Walk.{before}
-use Rattle.walk.proofs.Counting.{Counting, count_small, counts_on, counts_end}
+use Rattle.walk.proofs.Counting.{count_small, counts_on, counts_end}
 use Rattle.step.proofs.Looking.{fresh_small}
 use Rattle.walk.proofs.Still.{table_length}
 use Rattle.step.proofs.Stepped.{step_bounds}
-use Rattle.walk.proofs.Stepping.{to_do, stands_first, ready_still, goes_on, ends}
-use borrow.Author.Rules.{rules}
+use Rattle.walk.proofs.Stepping.{stands_first, ready_still, goes_on, ends}
 use Rattle.walk.proofs.walk_on.Goals as goal
 
 pub loop-next-init : goal.loop-next-init
@@ -36,24 +32,24 @@ pub advance-requires : goal.advance-requires
 advance-requires c = ready_still c.requires.0 c.loop-next.invariant.standing
 
 pub loop-next-smaller : goal.loop-next-smaller
-loop-next-smaller c = (goes_on c.requires.0 c.loop-next.invariant.standing _ (rw c.in-On.is at c.advance.ensures)).1
+loop-next-smaller c = (goes_on c.requires.0 c.loop-next.invariant.standing _ (rw c.in-Continue.is at c.advance.ensures)).1
 
 pub loop-next-preserved : goal.loop-next-preserved
 loop-next-preserved c =
     let r = c.requires.0 in
     let g = c.loop-next.invariant in
-    let h = rw c.in-On.is at c.advance.ensures in
+    let h = rw c.in-Continue.is at c.advance.ensures in
     record { standing = (goes_on r g.standing _ h).0; counts = counts_on r g _ _ _ _ c.newly-count.ensures h }
 
-pub shape_of-table-in-Ended : goal.shape_of-table-in-Ended
-shape_of-table-in-Ended c = c.advance.auto.table ∙ table_length c.requires.0 c.loop-next.invariant.standing.through
+pub shape_of-table-in-Break : goal.shape_of-table-in-Break
+shape_of-table-in-Break c = c.advance.auto.table ∙ table_length c.requires.0 c.loop-next.invariant.standing.through
 
-pub shape_of-work-in-Ended : goal.shape_of-work-in-Ended
-shape_of-work-in-Ended c = c.advance.auto.work ∙ c.loop-next.invariant.standing.work_size
+pub shape_of-work-in-Break : goal.shape_of-work-in-Break
+shape_of-work-in-Break c = c.advance.auto.work ∙ c.loop-next.invariant.standing.work_size
 
-pub returns-in-Ended : goal.returns-in-Ended
-returns-in-Ended c =
+pub returns-in-Break : goal.returns-in-Break
+returns-in-Break c =
     let r = c.requires.0 in
     let g = c.loop-next.invariant in
-    let h = rw c.in-Ended.is at c.advance.ensures in
-    record { ends = ends r g.standing _ h; counts = counts_end r g _ _ c.in-Ended.end _ c.newly-count.ensures h }
+    let h = rw c.in-Break.is at c.advance.ensures in
+    record { ends = ends r g.standing _ h; counts = counts_end r g _ _ c.in-Break.end _ c.newly-count.ensures h }

@@ -1,17 +1,10 @@
-use mathlib.Core.Path.{refl, ◌∙◌}
-use native.Mathlib.Omega.{arith}
 use lib.ListN.{length}
 use Rattle.grammar.specs.Words.{rule_in}
 use Rattle.schema.specs.Derivation.{◌at◌}
-use Rattle.schema.specs.Table.{cells, held}
-use Rattle.step.specs.Step.{called_of}
+use Rattle.schema.specs.Table.{cells}
 use Rattle.walk.specs.Walk.{before}
-use Rattle.walk.proofs.Counting.{Counting, count_small, counts_on, counts_end}
-use Rattle.step.proofs.Looking.{fresh_small}
-use Rattle.walk.proofs.Still.{table_length}
-use Rattle.step.proofs.Stepped.{step_bounds}
-use Rattle.walk.proofs.Stepping.{to_do, stands_first, ready_still, goes_on, ends}
-use borrow.Author.Rules.{rules}
+use Rattle.walk.proofs.Counting.{Counting}
+use Rattle.walk.proofs.Stepping.{to_do}
 use Rattle.walk.proofs.walk_on.Given as goal
 
 abbrev pub invariant-loop-next : goal.invariant-loop-next
