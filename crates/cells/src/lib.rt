@@ -9,7 +9,7 @@ ghost use Rattle.cells.specs.Packed.{entry};
 
 // What a cell of the table holds: the number of an outcome (document 01: blank, failure, loop, missing, or success ending at a position), and its
 // reach (document 02, order 6), 0 in what the calls store but for success and failure.
-#[derive(Clone, Copy)]
+#[derive(Clone, Copy, PartialEq, Eq)]
 pub struct Cell(pub u32, pub u32);
 
 impl Cell {
@@ -67,10 +67,7 @@ impl Cell {
     pub fn reaching(self, other: u32) -> Cell
         ensures { (result.0 ≡ self.0) × (result.1 ≡ max other self.1) }
     {
-        if self.1 < other {
-            return Cell(self.0, other);
-        }
-        self
+        Cell(self.0, self.1.max(other))
     }
 }
 
@@ -97,10 +94,7 @@ impl Caller {
         ensures { result ≡ entry self.second (self.variable at self.position) }
     {
         let pair = 8192 * self.variable + self.position;
-        if self.second {
-            return 2 * pair + 1;
-        }
-        2 * pair
+        2 * pair + u32::from(self.second)
     }
 
     // The caller of a number.
@@ -120,9 +114,5 @@ pub fn blank(numbers: &mut [u32], size: usize)
     requires { size ≤ length numbers.old }
     ensures { numbers.new ≡ replicate size 0 ++ drop size numbers.old }
 {
-    let mut i: usize = 0;
-    while i < size {
-        numbers[i] = 0;
-        i += 1;
-    }
+    numbers[..size].fill(0);
 }

@@ -1,7 +1,6 @@
 use Prim.Native.Nat.{◌+◌, ◌-◌}
 use native.Mathlib.Omega.{arith}
 use Rattle.cells.proofs.Numbers.{row_bound}
-use borrow.Author.Rules.{rules}
 use Rattle.cells.proofs.cell_number.Goals as goal
 
 pub overflow_mul-result : goal.overflow_mul-result

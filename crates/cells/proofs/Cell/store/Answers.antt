@@ -1,6 +1,5 @@
 use mathlib.Core.Path.{refl}
 use Rattle.schema.specs.Cells.{stored}
-use borrow.Author.Rules.{rules}
 use Rattle.cells.proofs.Cell.store.Goals as goal
 
 pub returns : goal.returns
