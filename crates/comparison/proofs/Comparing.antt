@@ -1,101 +1,73 @@
--- Two inputs compared from one position up to another; and up to a position and from behind it on, which is everywhere else. Assumes nothing.
-use mathlib.Core.Bool.{Bool, true, false, not, ◌&&◌, ◌||◌}
-use mathlib.Core.List.{List}
-use mathlib.Core.Path.{◌≡◌, refl, sym, ap, ◌∙◌}
-use Prim.Native.Nat.{ℕ, ◌+◌, ◌≤◌, ◌<◌}
-use native.Mathlib.Omega.{arith}
-use lib.Dec.{eqb, ltb}
-use lib.ListN.{length}
-use borrow.Author.Tests.{ltb-true, ltb-false, lt-ltb, le-ltb, eqb-false, eq-eqb, ne_eqb}
-use Rattle.grammar.proofs.Fitting.{neither_true}
-use Rattle.kept.specs.Differs.{bytes_differ, other_bytes_differ, differs_elsewhere}
-use Rattle.kept.specs.Some.{some}
-use Rattle.kept.proofs.Some.{some_none, some_each, some_more}
-use Rattle.comparison.specs.Between.{differs_between}
-
-module _ (s s' : List ℕ) (from to : ℕ) where
-  -- ---- What holds before each position.
-  pub record Comparing (differs : Bool) (position : ℕ) : Type 0 where
-    pub begun : from ≤ position
-    pub inside : position ≤ to
-    pub compared : differs ≡ differs_between s s' from position
-
-  pub comparing_begins : from ≤ to → Comparing false from
-  comparing_begins l =
-      record {
-        begun = omega arith;
-        inside = l;
-        compared = sym (some_none from (λ p. not (ltb p from) && bytes_differ s s' p) (λ p m. rw (lt-ltb p from m)));
-      }
-
-  module _ {differs : Bool} {position : ℕ} (comparing : Comparing differs position) where
-    pub comparing_goes_on : position < to → Comparing (differs || bytes_differ s s' position) (position + 1)
-    comparing_goes_on l =
-        let b = comparing.begun in
-        record {
-          begun = omega arith;
-          inside = omega arith;
-          compared =
-              ap (λ (d : Bool). d || bytes_differ s s' position) comparing.compared
-              ∙ sym (some_more position (λ p. not (ltb p from) && bytes_differ s s' p) ∙ rw (le-ltb position from b));
-        }
-
-    pub comparing_ends : to ≤ position → differs ≡ differs_between s s' from to
-    comparing_ends l =
-        let m = comparing.inside in
-        let e : position ≡ to = omega arith in
-        comparing.compared ∙ ap (λ (k : ℕ). differs_between s s' from k) e
-
--- ---- Everywhere but at c.
+-- Two inputs of one length, compared up to a position and from behind it on, which is everywhere else. Assumes nothing.
+use Rattle.std.proofs.Common.{◌≡◌, ℕ, ◌+◌, ◌-◌, ◌<◌, min, Bool, true, false, not, ◌||◌, ltb, List, length, get_or, take, drop, refl, sym, ap, ◌∙◌, arith}
+use Rattle.std.specs.Str.{bytes_eq}
+use Rattle.std.proofs.lemmas.List.{ext_get_or, get_or-take, get_or-drop, length-take, length-drop, take_all}
+use Rattle.std.proofs.lemmas.Slice.Eq.{bytes_eq-Decides}
+use borrow.Author.Tests.{ltb-true, ltb-false}
+use Rattle.kept.specs.Differs.{DiffersAt, differs_elsewhere}
+use Rattle.kept.proofs.Differing.{if_differs, then_differs}
 
 module _ (c : ℕ) (s s' : List ℕ) where
-  module _ (below : c < length s') where
-    abbrev before : Bool
-    before = differs_between s s' 0 c
+  -- Inputs that differ at c at most are the same up to c,
+  same_before : DiffersAt c s s' → take c s ≡ take c s'
+  same_before d =
+      let z = d.size in
+      ext_get_or 0 (take c s) (take c s') (length-take c s ∙ ap (min c) (sym z) ∙ sym (length-take c s'))
+      (λ p l. let m : p < c = omega (arith, length-take c s) in get_or-take c s p 0 m ∙ sym (d.same p (λ e. omega arith)) ∙ sym (get_or-take c s' p 0 m))
 
-    abbrev behind : Bool
-    behind = differs_between s s' (c + 1) (length s')
+  -- and behind it,
+  same_behind : DiffersAt c s s' → drop (c + 1) s ≡ drop (c + 1) s'
+  same_behind d =
+      let z = d.size in
+      ext_get_or 0 (drop (c + 1) s) (drop (c + 1) s') (length-drop (c + 1) s ∙ ap (λ n. n - (c + 1)) (sym z) ∙ sym (length-drop (c + 1) s'))
+      (λ p l. get_or-drop (c + 1) s p 0 ∙ sym (d.same (c + 1 + p) (λ e. omega arith)) ∙ sym (get_or-drop (c + 1) s' p 0))
 
-    -- Where neither part finds anything, nothing differs elsewhere;
-    none_elsewhere : (before || behind) ≡ false → some (length s') (other_bytes_differ c s s') ≡ false
-    none_elsewhere e = some_none (length s') (other_bytes_differ c s s') (λ p l. at_each p l (eqb p c) refl (ltb p c) refl)
-      where
-        at_each : (p : ℕ) → p < length s' → (b : Bool) → eqb p c ≡ b → (d : Bool) → ltb p c ≡ d → other_bytes_differ c s s' p ≡ false
-        at_each p l true z d h = rw z
-        at_each p l false z true h =
-            let each = some_each c (λ q. not (ltb q 0) && bytes_differ s s' q) (neither_true before behind e).0 p (ltb-true p c h) in
-            let same : bytes_differ s s' p ≡ false = rw (le-ltb p 0 (omega arith)) at each in
-            rw (z, same)
-        at_each p l false z false h =
-            let other = eqb-false p c z in
-            let right = ltb-false p c h in
-            let later : c + 1 ≤ p = omega arith in
-            let each = some_each (length s') (λ q. not (ltb q (c + 1)) && bytes_differ s s' q) (neither_true before behind e).1 p l in
-            let same : bytes_differ s s' p ≡ false = rw (le-ltb p (c + 1) later) at each in
-            rw (z, same)
+  -- and the other way.
+  same_elsewhere : length s ≡ length s' → take c s ≡ take c s' → drop (c + 1) s ≡ drop (c + 1) s' → DiffersAt c s s'
+  same_elsewhere z before behind = record { size = sym z; same = λ p n. at_each p n (ltb p c) refl }
+    where
+      at_each : (p : ℕ) → (p ≡ c → ⊥) → (b : Bool) → ltb p c ≡ b → get_or s' p 0 ≡ get_or s p 0
+      at_each p n true e =
+          let l = ltb-true p c e in
+          sym (get_or-take c s' p 0 l) ∙ ap (λ (t : List ℕ). get_or t p 0) (sym before) ∙ get_or-take c s p 0 l
+      at_each p n false e =
+          let l = ltb-false p c e in
+          let k : c + 1 + (p - (c + 1)) ≡ p = omega (arith, n) in
+          ap (λ (q : ℕ). get_or s' q 0) (sym k) ∙ sym (get_or-drop (c + 1) s' (p - (c + 1)) 0) ∙ ap (λ (t : List ℕ). get_or t (p - (c + 1)) 0) (sym behind)
+          ∙ get_or-drop (c + 1) s (p - (c + 1)) 0 ∙ ap (λ (q : ℕ). get_or s q 0) k
 
-    -- and the other way.
-    none_found : some (length s') (other_bytes_differ c s s') ≡ false → (before || behind) ≡ false
-    none_found e =
-        rw (some_none c (λ q. not (ltb q 0) && bytes_differ s s' q) up_to, some_none (length s') (λ q. not (ltb q (c + 1)) && bytes_differ s s' q) (λ p l. from_on p l (ltb p (c + 1)) refl))
-      where
-        same : (p : ℕ) → p < length s' → (p ≡ c → ⊥) → bytes_differ s s' p ≡ false
-        same p l n = let each = some_each (length s') (other_bytes_differ c s s') e p l in rw (ne_eqb p c n) at each
+  -- So where the two parts are the same, nothing differs elsewhere;
+  none_elsewhere : length s ≡ length s' → bytes_eq (take c s) (take c s') ≡ true → bytes_eq (drop (c + 1) s) (drop (c + 1) s') ≡ true
+      → differs_elsewhere c s s' ≡ false
+  none_elsewhere z e f =
+      if_differs c s s' (same_elsewhere z ((bytes_eq-Decides (take c s) (take c s')).0 e) ((bytes_eq-Decides (drop (c + 1) s) (drop (c + 1) s')).0 f))
 
-        up_to : (p : ℕ) → p < c → (not (ltb p 0) && bytes_differ s s' p) ≡ false
-        up_to p l = rw (le-ltb p 0 (omega arith), same p (omega arith) (λ z. omega arith))
+  -- and the other way.
+  none_found : differs_elsewhere c s s' ≡ false → (bytes_eq (take c s) (take c s') ≡ true) × (bytes_eq (drop (c + 1) s) (drop (c + 1) s') ≡ true)
+  none_found e =
+      let d = then_differs c s s' e in
+      ((bytes_eq-Decides (take c s) (take c s')).1 (same_before d), (bytes_eq-Decides (drop (c + 1) s) (drop (c + 1) s')).1 (same_behind d))
 
-        from_on : (p : ℕ) → p < length s' → (b : Bool) → ltb p (c + 1) ≡ b → (not (ltb p (c + 1)) && bytes_differ s s' p) ≡ false
-        from_on p l true h = rw h
-        from_on p l false h = let right = ltb-false p (c + 1) h in rw (h, same p l (λ z. omega arith))
+  -- Up to c and from behind it on is everywhere else.
+  pub parts_elsewhere : length s ≡ length s' → (not (bytes_eq (take c s) (take c s')) || not (bytes_eq (drop (c + 1) s) (drop (c + 1) s'))) ≡ differs_elsewhere c s s'
+  parts_elsewhere z = go (bytes_eq (take c s) (take c s')) (bytes_eq (drop (c + 1) s) (drop (c + 1) s')) (differs_elsewhere c s s') (none_elsewhere z) none_found
+    where
+      go : (a b d : Bool) → (a ≡ true → b ≡ true → d ≡ false) → (d ≡ false → (a ≡ true) × (b ≡ true)) → (not a || not b) ≡ d
+      go true true d f g = sym (f refl refl)
+      go true false true f g = refl
+      go false false true f g = refl
+      go false true true f g = refl
+      go true false false f g = absurd (let e = (g refl).1 in cc)
+      go false false false f g = absurd (let e = (g refl).1 in cc)
+      go false true false f g = absurd (let e = (g refl).0 in cc)
 
-    -- So up to c and from behind it on is everywhere else.
-    pub parts_elsewhere : length s ≡ length s' → (before || behind) ≡ differs_elsewhere c s s'
-    unfolding differs_elsewhere
-    parts_elsewhere z = rw (eq-eqb (length s) (length s') z) (alike (before || behind) (some (length s') (other_bytes_differ c s s')) none_elsewhere none_found)
-      where
-        alike : (a b : Bool) → (a ≡ false → b ≡ false) → (b ≡ false → a ≡ false) → a ≡ b
-        alike true true f g = refl
-        alike true false f g = g refl
-        alike false true f g = sym (f refl)
-        alike false false f g = refl
+  -- The test up to c,
+  pub differs_before : length s ≡ length s' → not (bytes_eq (take c s) (take c s')) ≡ true → differs_elsewhere c s s' ≡ true
+  differs_before z e = sym (parts_elsewhere z) ∙ rw e
+
+  -- and where it tells of none, the one from behind it on.
+  pub differs_behind : length s ≡ length s' → not (bytes_eq (take c s) (take c s')) ≡ false
+      → not (bytes_eq (take (length s - (c + 1)) (drop (c + 1) s)) (take (length s' - (c + 1)) (drop (c + 1) s'))) ≡ differs_elsewhere c s s'
+  differs_behind z e =
+      rw (take_all (length s - (c + 1)) (drop (c + 1) s) (omega (arith, length-drop (c + 1) s)), take_all (length s' - (c + 1)) (drop (c + 1) s') (omega (arith, length-drop (c + 1) s')))
+      (rw e at (parts_elsewhere z))

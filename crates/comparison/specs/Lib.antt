@@ -1,2 +1,0 @@
--- Two inputs compared.
-pub mod Between
