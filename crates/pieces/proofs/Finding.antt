@@ -1,4 +1,5 @@
 -- Pieces found: items, rows with one item more, choices with one row more. Assumes nothing.
+use Rattle.std.specs.Prelude.{Result, Ok, Err}
 use mathlib.Core.Bool.{true}
 use mathlib.Core.List.{List, ◌∷◌}
 use mathlib.Core.Option.{Option, none, some}
@@ -7,13 +8,13 @@ use Prim.Native.Nat.{ℕ, ◌+◌, ◌≤◌, ◌<◌}
 use native.Mathlib.Omega.{arith}
 use lib.ListN.{length, drop, get_or}
 use Rattle.grammar.specs.Rule.{byte, call}
+use Rattle.grammar.specs.declared.refusal.Refusal.{Refusal}
+use Rattle.grammar.specs.declared.refusal.Refusal.TheVariants.{Text}
 use Rattle.notation.specs.Emit.{Rules, Made, made, put, joined, bracketed, item_rules, row_rules, choice_rules}
 use Rattle.notation.specs.Scan.{Part, part, with_item, opened, choosing, scan, part_of}
 use Rattle.notation.specs.Text.{Bracket, opener, closer, Item, letter, quoted, fails, inside, empty, next, Choice, only, or, capital, item_cost, row_cost, choice_cost}
 use Rattle.pieces.specs.Store.{capped, Stored, StoredMade, Few, moved, Makes}
 use Rattle.pieces.specs.Piece.{begins_item, Moves, Refuses, Kind, items, rows, choices, Finds, Reads, EndsItem, EndsRow, EndsChoice, Ready}
-use Rattle.pieces.specs.declared.Read.{Read}
-use Rattle.pieces.specs.declared.Read.TheVariants.{Found, Fault}
 use Rattle.pieces.specs.declared.Piece.{Piece}
 use Rattle.pieces.proofs.Bytes.{some_byte, closer_some}
 use Rattle.pieces.proofs.Scanning.{before_end, letter_moves, percent_moves, slash_moves, opens_bracket, closes_bracket, not_closed, quote_moves}
@@ -24,14 +25,14 @@ use Rattle.pieces.proofs.Growing.{both_stored, bracket_stored, joined_same, or_s
 abbrev pub Onward : (k : Kind) → List ℕ → ℕ → Piece → List ℕ → Piece → List ℕ → Type 0
 Onward k s depth p ws q ws' = (from : Piece) (before : List ℕ) → Finds k s depth from before p ws → Finds k s depth from before q ws'
 
-module _ (k : Kind) (s : List ℕ) (depth : ℕ) (from : Piece) (ws : List ℕ) (Ends : Piece → Type 0) (r : Read) (ws' : List ℕ) (g : Reads k s depth from ws Ends r ws') where
+module _ (k : Kind) (s : List ℕ) (depth : ℕ) (from : Piece) (ws : List ℕ) (Ends : Piece → Type 0) (r : Result Piece Refusal) (ws' : List ℕ) (g : Reads k s depth from ws Ends r ws') where
   -- What a reader's answer says: a piece,
-  pub taken : {p : Piece} → r ≡ Found p → Finds k s depth from ws p ws' × Ends p
-  taken e = subst (λ (o : Read). Reads k s depth from ws Ends o ws') e g
+  pub taken : {p : Piece} → r ≡ Ok p → Finds k s depth from ws p ws' × Ends p
+  taken e = subst (λ (o : Result Piece Refusal). Reads k s depth from ws Ends o ws') e g
 
   -- or a refusal.
-  pub faulted : {number : ℕ} → r ≡ Fault number → (x : k.Context) → Refuses s depth from.at (k.before x) number
-  faulted e = subst (λ (o : Read). Reads k s depth from ws Ends o ws') e g
+  pub faulted : {x : Refusal} → r ≡ Err x → (y : k.Context) → Refuses s depth from.at (k.before y) x
+  faulted e = subst (λ (o : Result Piece Refusal). Reads k s depth from ws Ends o ws') e g
 
 -- A reader is ready at another piece, and at another depth.
 pub ready_at : (s numbers : List ℕ) (always depth deeper : ℕ) (from p : Piece) → Ready s numbers always depth from → deeper ≤ 16 → p.at ≤ length s → Few p
@@ -225,32 +226,32 @@ module _ (number : ℕ → ℕ) (E : ℕ) (s : List ℕ) (depth : ℕ) where
 
   module _ (from : Piece) (ws ws' : List ℕ) where
     -- Of an item behind a row,
-    pub row_refused : (row : Piece) (k : ℕ) → Finds (rows number E) s depth from ws row ws' → ((x : Part) → Refuses s depth row.at x k)
+    pub row_refused : (row : Piece) (k : Refusal) → Finds (rows number E) s depth from ws row ws' → ((x : Part) → Refuses s depth row.at x k)
         → (o : Option Choice) → Refuses s depth from.at (part o empty) k
     row_refused row k f g o ls A os l = f.moves o ls A os l ∙ g (part o f.piece) ls A os l
 
     -- of the first row,
-    pub first_refused : (number' : ℕ) (r : Read) → Reads (rows number E) s depth from ws (EndsRow s) r ws' → r ≡ Fault number'
+    pub first_refused : (e : Refusal) (r : Result Piece Refusal) → Reads (rows number E) s depth from ws (EndsRow s) r ws' → r ≡ Err e
         → Reads (choices number E) s depth from ws (EndsChoice s) r ws'
-    first_refused number' r g e =
-        subst (λ (o : Read). Reads (choices number E) s depth from ws (EndsChoice s) o ws') (sym e)
+    first_refused x r g e =
+        subst (λ (o : Result Piece Refusal). Reads (choices number E) s depth from ws (EndsChoice s) o ws') (sym e)
         (λ u. faulted (rows number E) s depth from ws (EndsRow s) r ws' g e none)
 
     -- of a row behind a slash,
-    pub choice_refused : (choice : Piece) (k : ℕ) → Finds (choices number E) s depth from ws choice ws' → get_or s choice.at 0 ≡ 47
+    pub choice_refused : (choice : Piece) (k : Refusal) → Finds (choices number E) s depth from ws choice ws' → get_or s choice.at 0 ≡ 47
         → ((o : Option Choice) → Refuses s depth (choice.at + 1) (part o empty) k) → Refuses s depth from.at (part none empty) k
     choice_refused choice k f slash g ls A os l =
         f.moves tt ls A os l ∙ slash_moves s choice.at depth slash f.piece ls A os l ∙ g (some f.piece) ls A os l
 
     -- of a choice in brackets,
-    pub inside_refused : (k : Bracket) (number : ℕ) → get_or s from.at 0 ≡ opener k → (depth ≡ 16 → ⊥) → Refuses s (depth + 1) (from.at + 1) (part none empty) number
-        → (x : Part) → Refuses s depth from.at x number
-    inside_refused k number e d g x ls A os l = opens_bracket s from.at depth k e d x ls A os l ∙ g ls A (opened k x ∷ os) (omega arith)
+    pub inside_refused : (k : Bracket) (x : Refusal) → get_or s from.at 0 ≡ opener k → (depth ≡ 16 → ⊥) → Refuses s (depth + 1) (from.at + 1) (part none empty) x
+        → (y : Part) → Refuses s depth from.at y x
+    inside_refused k y e d g x ls A os l = opens_bracket s from.at depth k e d x ls A os l ∙ g ls A (opened k x ∷ os) (omega arith)
 
     -- and of a bracket that is not closed.
     pub bracket_refused : (k : Bracket) (p : Piece) → get_or s from.at 0 ≡ opener k → (depth ≡ 16 → ⊥)
         → Finds (choices number E) s (depth + 1) (moved from (from.at + 1) from.variable 3) ws p ws' → EndsChoice s p → (get_or s p.at 0 ≡ closer k → ⊥)
-        → (x : Part) → Refuses s depth from.at x 15
+        → (x : Part) → Refuses s depth from.at x Text
     bracket_refused k p e d f g c x ls A os l =
         opens_bracket s from.at depth k e d x ls A os l ∙ f.moves tt ls A (opened k x ∷ os) (omega arith)
         ∙ not_closed s p.at k g.0 g.1 c (part_of f.piece) x ls A os

@@ -3,14 +3,16 @@ use mathlib.Core.Bool.{true, false}
 use mathlib.Core.List.{List, [], ◌∷◌, ◌++◌}
 use mathlib.Core.Option.{none, some}
 use mathlib.Core.Path.{◌≡◌, sym, ap, ◌∙◌}
-use Prim.Native.Nat.{ℕ, ◌+◌, ◌≤◌, ◌<◌}
+use Prim.Native.Nat.{ℕ, ◌+◌, ◌-◌, ◌≤◌, ◌<◌}
 use native.Mathlib.Decide.{dec_lt}
 use native.Mathlib.Numerals.{add-one}
 use native.Mathlib.Omega.{arith}
-use lib.ListN.{length, get_or, drop, get_or-eq_default, drop_of_length-le}
+use lib.ListN.{length, get_or, take, drop, get_or-eq_default, drop_of_length-le}
+use Rattle.std.proofs.lemmas.List.{get_or-drop, take_rest}
 use lib.Seq.{drop-cons}
 use borrow.Author.Tests.{ne_eqb}
 use Rattle.grammar.specs.Refusal.{refused}
+use Rattle.grammar.specs.declared.refusal.Refusal.TheVariants.{Text, Nesting}
 use Rattle.notation.specs.Scan.{Part, part, with_item, part_of, Open, opened, State, choosing, quoting, unquoting, before, faults, ends, step, chooses, finish, after, scan}
 use Rattle.notation.specs.Text.{Bracket, round, square, opener, closer, letter, quoted, fails, inside, empty, Choice, Line, line, capital}
 use Rattle.notation.proofs.Read.{whole_part}
@@ -53,7 +55,7 @@ module _ (s : List ℕ) (q : ℕ) where
     slash_moves e c ls A os d =
         byte_is 47 (choosing ls A os (part_of c)) (omega arith) e ∙ ap (λ (y : Choice). scan (drop (q + 1) s) (choosing ls A os (part (some y) empty))) (whole_part c)
 
-    pub too_deep : (k : Bracket) → get_or s q 0 ≡ opener k → depth ≡ 16 → (x : Part) → Refuses s depth q x 16
+    pub too_deep : (k : Bracket) → get_or s q 0 ≡ opener k → depth ≡ 16 → (x : Part) → Refuses s depth q x Nesting
     unfolding step chooses
     too_deep round e f x ls A os d = byte_is 40 (choosing ls A os x) (omega arith) e ∙ rw (d, f)
     too_deep square e f x ls A os d = byte_is 91 (choosing ls A os x) (omega arith) e ∙ rw (d, f)
@@ -103,6 +105,10 @@ module _ (s : List ℕ) (q : ℕ) where
 
 -- ---- A byte between single quotes.
 
+-- A byte of the rest of a text.
+pub rest_byte : (s : List ℕ) (q k : ℕ) → get_or (take (length s - q) (drop q s)) k 0 ≡ get_or s (q + k) 0
+rest_byte s q k = rw (take_rest s q) (get_or-drop q s k 0)
+
 module _ (s : List ℕ) (q depth : ℕ) (quote : get_or s q 0 ≡ 39) (x : Part) where
   opens_quote : (ls : List Line) (A : ℕ) (os : List Open) → scan (drop q s) (choosing ls A os x) ≡ scan (drop (q + 1) s) (quoting ls A os x)
   unfolding step chooses
@@ -122,12 +128,12 @@ module _ (s : List ℕ) (q depth : ℕ) (quote : get_or s q 0 ≡ 39) (x : Part)
       takes_byte (omega arith) ls A os ∙ byte_is s (q + 2) 39 (unquoting ls A os x (get_or s (q + 1) 0)) (omega arith) e
       ∙ ap (λ (i : ℕ). scan (drop i s) (choosing ls A os (with_item x (quoted (get_or s (q + 1) 0))))) k
 
-  pub quote_open : q + 2 < length s → (get_or s (q + 2) 0 ≡ 39 → ⊥) → Refuses s depth q x 15
+  pub quote_open : q + 2 < length s → (get_or s (q + 2) 0 ≡ 39 → ⊥) → Refuses s depth q x Text
   unfolding step
   quote_open l n ls A os d =
       takes_byte (omega arith) ls A os ∙ one s (q + 2) (unquoting ls A os x (get_or s (q + 1) 0)) l ∙ rw (ne_eqb (get_or s (q + 2) 0) 39 n)
 
-  pub quote_short : length s ≤ q + 2 → Refuses s depth q x 15
+  pub quote_short : length s ≤ q + 2 → Refuses s depth q x Text
   quote_short l ls A os d = go (dec_lt (q + 1) (length s))
     where
       go : Dec (q + 1 < length s) → scan (drop q s) (choosing ls A os x) ≡ refused 15 0

@@ -1,7 +1,7 @@
 -- Rules that are stored one by one. Assumes nothing.
 use mathlib.Core.List.{List}
 use mathlib.Core.Path.{◌≡◌, refl, sym, ap, ◌∙◌, subst}
-use Prim.Native.Nat.{ℕ, ◌+◌, ◌-◌, ◌≤◌, ◌<◌}
+use Prim.Native.Nat.{ℕ, ◌+◌, ◌-◌, ◌≤◌}
 use native.Mathlib.Omega.{arith}
 use lib.ListN.{set}
 use borrow.Author.Tests.{eq-eqb, ne_eqb}
@@ -19,16 +19,23 @@ pub words_with : (f : ℕ → Rule) (v : ℕ) (r : Rule) (ws : List ℕ) (w : �
 words_with f v r ws w low high e is =
     ap (λ (u : List ℕ). set u (v - 1) w) is ∙ words_set f (with f v r) v w low high (e ∙ ap word (sym (there f v r))) (λ X d. elsewhere f v X r d)
 
--- A rule is put where there is room,
-pub put_room : (x : Rule) (w last : ℕ) (ws : List ℕ) → w ≡ word x → last ≤ 255 → (z : Rules) → Stored z last ws → StoredMade (put z x) (last + 1) (last + 1) (set ws last w)
-put_room x w last ws e l (rules f n) h =
-    let c = h.0 in
-    let same : last ≡ n + 1 - 1 = omega arith in
-    (omega arith, λ few. (omega arith, ap (λ (i : ℕ). set ws i w) same ∙ words_with f (n + 1) x ws w (omega arith) (omega arith) e (h.1 (omega arith))))
-
--- and where there is none.
-pub put_full : (x : Rule) (last : ℕ) (ws : List ℕ) → 255 < last → (z : Rules) → Stored z last ws → StoredMade (put z x) 257 257 ws
-put_full x last ws l (rules f n) h = let c = h.0 in (omega arith, λ few. absurd (omega arith))
+-- A rule is put, where there is room.
+pub put_makes : (x : Rule) (w at : ℕ) (p : Piece) (ws : List ℕ) → w ≡ word x → Few p → p.last ≤ 255
+    → Makes (λ z. put z x) at p ws (record { at = at; variable = p.last + 1; last = p.last + 1; cost = p.cost }) (set ws p.last w)
+put_makes x w at p ws e few l =
+    record {
+      ends_at = refl;
+      cost_is = refl;
+      few = record { variable_few = omega arith; last_few = omega arith; cost_few = few.cost_few };
+      grows = omega arith;
+      stores = go;
+    }
+  where
+    go : (z : Rules) → Stored z p.last ws → StoredMade (put z x) (p.last + 1) (p.last + 1) (set ws p.last w)
+    go (rules f n) h =
+        let c = h.0 in
+        let same : p.last ≡ n + 1 - 1 = omega arith in
+        (omega arith, λ few. (omega arith, ap (λ (i : ℕ). set ws i w) same ∙ words_with f (n + 1) x ws w (omega arith) (omega arith) e (h.1 (omega arith))))
 
 -- Nothing is made, at another position.
 pub makes_none : (at v : ℕ) (p : Piece) (ws : List ℕ) → Few p → v ≤ 257

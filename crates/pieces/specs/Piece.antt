@@ -1,18 +1,18 @@
 -- Document 02, order 1: what the readers of items, rows and choices promise. Assumes nothing.
-use Rattle.std.specs.Prelude.{Bool, true, false, cond, ◌||◌, List, ◌≡◌, ℕ, ◌+◌, ◌≤◌, ◌<◌, eqb, length, drop, get_or}
-use Rattle.std.proofs.Math.Option.{Option, none}
+use Rattle.std.specs.Prelude.{Bool, true, false, cond, ◌||◌, List, Option, Some, None, Result, Ok, Err, ◌≡◌, ℕ, ◌+◌, ◌≤◌, ◌<◌, eqb, length, drop, get_or}
+use Rattle.std.proofs.Math.Option.{Option as Maybe, none}
+use Rattle.grammar.specs.Numbers.{number_of, line_of}
 use Rattle.grammar.specs.Refusal.{refused}
+use Rattle.grammar.specs.declared.refusal.Refusal.{Refusal}
 use Rattle.notation.specs.Emit.{Rules, Made, item_rules, row_rules, choice_rules}
 use Rattle.notation.specs.Scan.{Part, part, with_item, part_of, Open, choosing, scan}
 use Rattle.notation.specs.Text.{Item, Row, empty, Choice, Line, capital, item_cost, row_cost, choice_cost}
 use Rattle.pieces.specs.Store.{capped, Stored, StoredMade, Few}
 use Rattle.pieces.specs.declared.Piece.{Piece}
-use Rattle.pieces.specs.declared.Read.{Read}
-use Rattle.pieces.specs.declared.Read.TheVariants.{Found, Fault}
 
--- The byte that closes a bracket which this byte opens; 0 for any other byte.
-abbrev pub closing : ℕ → ℕ
-closing b = cond (eqb b 40) 41 (cond (eqb b 91) 93 0)
+-- The byte that closes a bracket, where this byte opens one.
+abbrev pub closing : ℕ → Option ℕ
+closing b = cond (eqb b 40) (Some 41) (cond (eqb b 91) (Some 93) None)
 
 -- "An item is a capital, a byte between single quotes, `%` .., a choice in round brackets, or a choice in square brackets": does one begin with this byte?
 abbrev pub begins_item : ℕ → Bool
@@ -22,9 +22,9 @@ begins_item b = eqb b 37 || (eqb b 39 || (eqb b 40 || (eqb b 91 || capital b)))
 abbrev pub Moves : List ℕ → ℕ → ℕ → Part → ℕ → Part → Type 0
 Moves s depth at x q y = (ls : List Line) (A : ℕ) (os : List Open) → length os ≡ depth → scan (drop at s) (choosing ls A os x) ≡ scan (drop q s) (choosing ls A os y)
 
--- Reading on from there is refused with this number.
-abbrev pub Refuses : List ℕ → ℕ → ℕ → Part → ℕ → Type 0
-Refuses s depth at x number = (ls : List Line) (A : ℕ) (os : List Open) → length os ≡ depth → scan (drop at s) (choosing ls A os x) ≡ refused number 0
+-- Reading on from there is refused so.
+abbrev pub Refuses : List ℕ → ℕ → ℕ → Part → Refusal → Type 0
+Refuses s depth at x e = (ls : List Line) (A : ℕ) (os : List Open) → length os ≡ depth → scan (drop at s) (choosing ls A os x) ≡ refused (number_of e) (line_of e)
 
 -- A kind of pieces (document 02: items, rows, choices). By what it stands behind: what has been read of the choice before it, and with it. The rules
 -- that are stored for it, and its cost.
@@ -44,7 +44,7 @@ module _ (number : ℕ → ℕ) (E : ℕ) where
 
   -- a row begins where none of its items is read, behind other rows perhaps,
   abbrev pub rows : Kind
-  rows = record { Of = Row; Context = Option Choice; before = λ o. part o empty; behind = part; rules_of = row_rules number E (E + 1); cost_of = row_cost }
+  rows = record { Of = Row; Context = Maybe Choice; before = λ o. part o empty; behind = part; rules_of = row_rules number E (E + 1); cost_of = row_cost }
 
   -- a choice where nothing of it is.
   abbrev pub choices : Kind
@@ -62,10 +62,10 @@ pub record Finds (k : Kind) (s : List ℕ) (depth : ℕ) (from : Piece) (ws : Li
   pub grows : from.last ≤ p.last
   pub stores : (z : Rules) → Stored z from.last ws → StoredMade (k.rules_of piece z) p.variable p.last ws'
 
--- What a reader of pieces of this kind promises: one that ends as Ends says, or the number of a refusal.
-abbrev pub Reads : (k : Kind) → List ℕ → ℕ → Piece → List ℕ → (Piece → Type 0) → Read → List ℕ → Type 0
-Reads k s depth from ws Ends (Found p) ws' = Finds k s depth from ws p ws' × Ends p
-Reads k s depth from ws Ends (Fault number) ws' = (x : k.Context) → Refuses s depth from.at (k.before x) number
+-- What a reader of pieces of this kind promises: one that ends as Ends says, or a refusal.
+abbrev pub Reads : (k : Kind) → List ℕ → ℕ → Piece → List ℕ → (Piece → Type 0) → Result Piece Refusal → List ℕ → Type 0
+Reads k s depth from ws Ends (Ok p) ws' = Finds k s depth from ws p ws' × Ends p
+Reads k s depth from ws Ends (Err e) ws' = (x : k.Context) → Refuses s depth from.at (k.before x) e
 
 -- An item takes a byte or more;
 abbrev pub EndsItem : Piece → Piece → Type 0
@@ -93,4 +93,4 @@ pub record LeafReady (s numbers : List ℕ) (always : ℕ) (from : Piece) : Type
   pub always_few : always ≤ 256
   pub numbers_few : (i : ℕ) → get_or numbers i 0 ≤ 256
   pub begins : begins_item (get_or s from.at 0) ≡ true
-  pub no_bracket : closing (get_or s from.at 0) ≡ 0
+  pub no_bracket : closing (get_or s from.at 0) ≡ None

@@ -10,6 +10,7 @@ ghost use Rattle.notation.specs.Text.{Bracket, closer};
 ghost use Rattle.pieces.specs.Store.{capped, number_held, Few, Makes};
 ghost use Rattle.pieces.specs.Piece.{closing, begins_item, items, rows, choices, Reads, EndsItem, EndsRow, EndsChoice, Ready, LeafReady};
 
+use grammar::refusal::Refusal;
 use grammar::sheet::Rules;
 
 // How deep brackets nest.
@@ -24,56 +25,29 @@ pub struct Piece {
     pub cost: u32,
 }
 
-// What a reader finds: a piece, or the number of a refusal.
-#[derive(Drop)]
-pub enum Read {
-    Found(Piece),
-    Fault(u32),
-}
-
 // The byte at a position, 0 past the end.
 pub fn byte_at(s: &[u8], at: usize) -> u8
     ensures { result ≡ get_or s.now at 0 }
 {
-    if at < s.len() {
-        return s[at];
-    }
-    0
+    s.get(at).copied().unwrap_or(0)
 }
 
-// The byte that closes a bracket which this byte opens; 0 for any other byte.
-fn closer_of(b: u8) -> u8
+// The byte that closes a bracket, where this byte opens one.
+fn closer_of(b: u8) -> Option<u8>
     ensures { result ≡ closing b }
 {
-    if b == 40 {
-        return 41;
+    match b {
+        b'(' => Some(b')'),
+        b'[' => Some(b']'),
+        _ => None,
     }
-    if b == 91 {
-        return 93;
-    }
-    0
 }
 
 // Does an item begin with this byte?
 fn begins_item(b: u8) -> bool
     ensures { result ≡ begins_item b }
 {
-    if b == 37 {
-        return true;
-    }
-    if b == 39 {
-        return true;
-    }
-    if b == 40 {
-        return true;
-    }
-    if b == 91 {
-        return true;
-    }
-    if b < 65 {
-        return false;
-    }
-    b <= 90
+    matches!(b, b'%' | b'\'' | b'(' | b'[' | b'A'..=b'Z')
 }
 
 // The cost and some more, up to 257.
@@ -81,28 +55,21 @@ fn raised(cost: u32, by: u32) -> u32
     requires { (cost ≤ 257) × (by ≤ 3) }
     ensures { result ≡ capped (cost + by) }
 {
-    let sum = cost + by;
-    if 257 < sum {
-        return 257;
-    }
-    sum
+    (cost + by).min(257)
 }
 
 // The byte of a word that stands for a variable: the variable less 1. (A letter that the text does not have may be numbered 0.)
 fn operand(variable: u32) -> u32
     ensures { result ≡ variable - 1 }
 {
-    if variable == 0 {
-        return 0;
-    }
-    variable - 1
+    variable.saturating_sub(1)
 }
 
 // The word of a rule for a byte.
 fn byte_word(b: u8) -> u32
     ensures { result ≡ word (byte b) }
 {
-    16777216 * 3 + 65536 * b as u32
+    16777216 * 3 + 65536 * u32::from(b)
 }
 
 // The word of a rule that calls x, y and z.
@@ -118,21 +85,22 @@ fn with_rule(at: usize, p: Piece, code: u32, rules: &mut Rules) -> Piece
     requires { Few p }
     ensures { (x : Rule) → code ≡ word x → Makes (λ z. put z x) at p rules.old result rules.new }
 {
-    let last = p.last;
-    if 255 < last {
+    let index = p.last as usize;
+    if rules.len() <= index {
         return Piece {
             at,
             variable: 257,
             last: 257,
-            cost: p.cost,
+            ..p
         };
     }
-    rules[last as usize] = code;
+    rules[index] = code;
+    let variable = p.last + 1;
     Piece {
         at,
-        variable: last + 1,
-        last: last + 1,
-        cost: p.cost,
+        variable,
+        last: variable,
+        ..p
     }
 }
 
@@ -162,13 +130,8 @@ fn in_brackets(at: usize, always: u32, closing: u8, choice: Piece, rules: &mut R
     requires { (always ≤ 256) × Few choice }
     ensures { (number : ℕ → ℕ) (k : Bracket) → closing ≡ closer k → Makes (bracketed number always (always + 1) k choice.variable) at choice rules.old result rules.new }
 {
-    if closing == 41 {
-        return Piece {
-            at,
-            variable: choice.variable,
-            last: choice.last,
-            cost: choice.cost,
-        };
+    if closing == b')' {
+        return Piece { at, ..choice };
     }
     let code = call_word(choice.variable, always + 1, always);
     let refused = with_rule(at, choice, code, rules);
@@ -184,42 +147,42 @@ fn moved(p: Piece, at: usize, variable: u32, by: u32) -> Piece
     Piece {
         at,
         variable,
-        last: p.last,
         cost: raised(p.cost, by),
+        ..p
     }
 }
 
 // A byte between single quotes: a rule of its own.
-fn read_quoted(s: &[u8], from: Piece, rules: &mut Rules) -> Read
+fn read_quoted(s: &[u8], from: Piece, rules: &mut Rules) -> Result<Piece, Refusal>
     requires { Few from × (get_or s.now from.at 0 ≡ 39) }
     ensures { (number : ℕ → ℕ) (E depth : ℕ) → Reads (items number E) s.now depth from rules.old (EndsItem from) result rules.new }
 {
-    let at = from.at;
-    if s.len() - at < 3 {
-        return Read::Fault(15);
-    }
-    if s[at + 2] != 39 {
-        return Read::Fault(15);
-    }
-    let priced = moved(from, at, from.variable, 3);
-    let code = byte_word(s[at + 1]);
-    Read::Found(with_rule(at + 3, priced, code, rules))
+    let [_, byte, b'\'', ..] = &s[from.at..] else {
+        return Err(Refusal::Text);
+    };
+    let priced = moved(from, from.at, from.variable, 3);
+    Ok(with_rule(from.at + 3, priced, byte_word(*byte), rules))
 }
 
 // An item that is no bracket. Each item costs 3.
-fn read_leaf(s: &[u8], numbers: &[u32; 26], always: u32, from: Piece, rules: &mut Rules) -> Read
+fn read_leaf(
+    s: &[u8],
+    numbers: &[u32; 26],
+    always: u32,
+    from: Piece,
+    rules: &mut Rules,
+) -> Result<Piece, Refusal>
     requires { LeafReady s.now numbers.now always from }
     ensures { (depth : ℕ) → Reads (items (number_held numbers.now) always) s.now depth from rules.old (EndsItem from) result rules.new }
 {
-    let at = from.at;
-    let b = byte_at(s, at);
-    if b == 39 {
-        return read_quoted(s, from, rules);
+    match byte_at(s, from.at) {
+        b'\'' => read_quoted(s, from, rules),
+        b'%' => Ok(moved(from, from.at + 1, always + 1, 3)),
+        letter => {
+            let variable = numbers[usize::from(letter - b'A')];
+            Ok(moved(from, from.at + 1, variable, 3))
+        }
     }
-    if b == 37 {
-        return Read::Found(moved(from, at + 1, always + 1, 3));
-    }
-    Read::Found(moved(from, at + 1, numbers[b as usize - 65], 3))
 }
 
 // A choice: rows parted by slashes. It ends before any other byte, which the caller judges.
@@ -231,27 +194,17 @@ pub fn read_choice(
     from: Piece,
     depth: u32,
     rules: &mut Rules,
-) -> Read
+) -> Result<Piece, Refusal>
     requires { Ready s.now numbers.now always depth from }
     ensures { Reads (choices (number_held numbers.now) always) s.now depth from rules.old (EndsChoice s.now) result rules.new }
 {
-    let first = read_row(s, numbers, always, from, depth, rules);
-    let Read::Found(row) = first else {
-        return first;
-    };
-    let mut here = row;
-    while byte_at(s, here.at) == 47 {
+    let mut here = read_row(s, numbers, always, from, depth, rules)?;
+    while byte_at(s, here.at) == b'/' {
         let next = moved(here, here.at + 1, here.variable, 1);
-        match read_row(s, numbers, always, next, depth, rules) {
-            Read::Fault(number) => {
-                return Read::Fault(number);
-            }
-            Read::Found(other) => {
-                here = either(always, here, other, rules);
-            }
-        }
+        let row = read_row(s, numbers, always, next, depth, rules)?;
+        here = either(always, here, row, rules);
     }
-    Read::Found(here)
+    Ok(here)
 }
 
 // A row: items one after another, perhaps none. The empty row always succeeds.
@@ -263,27 +216,19 @@ fn read_row(
     from: Piece,
     depth: u32,
     rules: &mut Rules,
-) -> Read
+) -> Result<Piece, Refusal>
     requires { Ready s.now numbers.now always depth from }
     ensures { Reads (rows (number_held numbers.now) always) s.now depth from rules.old (EndsRow s.now) result rules.new }
 {
     let mut here = Piece {
-        at: from.at,
         variable: always,
-        last: from.last,
-        cost: from.cost,
+        ..from
     };
     while begins_item(byte_at(s, here.at)) {
-        match read_item(s, numbers, always, here, depth, rules) {
-            Read::Fault(number) => {
-                return Read::Fault(number);
-            }
-            Read::Found(item) => {
-                here = join(always, here, item, rules);
-            }
-        }
+        let item = read_item(s, numbers, always, here, depth, rules)?;
+        here = join(always, here, item, rules);
     }
-    Read::Found(here)
+    Ok(here)
 }
 
 // An item. "Brackets nest to 16."
@@ -295,27 +240,20 @@ fn read_item(
     from: Piece,
     depth: u32,
     rules: &mut Rules,
-) -> Read
+) -> Result<Piece, Refusal>
     requires { Ready s.now numbers.now always depth from × (begins_item (get_or s.now from.at 0) ≡ true) }
     ensures { Reads (items (number_held numbers.now) always) s.now depth from rules.old (EndsItem from) result rules.new }
 {
-    let at = from.at;
-    let closing = closer_of(byte_at(s, at));
-    if closing == 0 {
+    let Some(closing) = closer_of(byte_at(s, from.at)) else {
         return read_leaf(s, numbers, always, from, rules);
-    }
+    };
     if depth == DEEPEST {
-        return Read::Fault(16);
+        return Err(Refusal::Nesting);
     }
-    let inner = moved(from, at + 1, from.variable, 3);
-    match read_choice(s, numbers, always, inner, depth + 1, rules) {
-        Read::Fault(number) => Read::Fault(number),
-        Read::Found(choice) => {
-            let end = choice.at;
-            if byte_at(s, end) != closing {
-                return Read::Fault(15);
-            }
-            Read::Found(in_brackets(end + 1, always, closing, choice, rules))
-        }
+    let inner = moved(from, from.at + 1, from.variable, 3);
+    let choice = read_choice(s, numbers, always, inner, depth + 1, rules)?;
+    if byte_at(s, choice.at) != closing {
+        return Err(Refusal::Text);
     }
+    Ok(in_brackets(choice.at + 1, always, closing, choice, rules))
 }

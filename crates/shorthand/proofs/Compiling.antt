@@ -1,4 +1,5 @@
 -- What was read of a text is compiled. Assumes nothing.
+use Rattle.std.specs.Prelude.{Result, Ok, Err}
 use mathlib.Core.Bool.{Bool, true, false, cond}
 use mathlib.Core.List.{List, []}
 use mathlib.Core.Path.{◌≡◌, refl, ap, ◌∙◌, subst}
@@ -7,7 +8,9 @@ use native.Mathlib.Decide.{dec_lt}
 use native.Mathlib.Omega.{arith}
 use lib.ListN.{length, get_or, set, replicate, get_or-eq_default}
 use Rattle.grammar.specs.Printing.{printed, rules_from, rules_of}
+use Rattle.grammar.specs.Numbers.{number_of as refusal_number, line_of}
 use Rattle.grammar.specs.Refusal.{refused, accepted}
+use Rattle.grammar.specs.declared.refusal.Refusal.{Refusal}
 use Rattle.grammar.specs.Words.{rule_in}
 use Rattle.grammar.proofs.Fitting.{within_both}
 use Rattle.grammar.proofs.Listed.{rules_of_words}
@@ -29,13 +32,10 @@ use Rattle.notation.proofs.Texts.{accepted_exactly, text_letters, text_assembled
 use Rattle.letters.specs.Numbering.{Numbers}
 use Rattle.pieces.specs.Store.{capped, number_held, Stored}
 use Rattle.pieces.specs.declared.Piece.{Piece}
-use Rattle.pieces.specs.declared.Read.{Read}
-use Rattle.pieces.specs.declared.Read.TheVariants.{Found, Fault}
 use Rattle.pieces.proofs.Beginning.{first_stored}
 use Rattle.printing.specs.Listing.{SheetPut}
 use Rattle.shorthand.specs.Lines.{LinesReady, LinesFound, LinesRead}
-use Rattle.shorthand.specs.Promise.{told, Compiles, EndReady, Ends}
-use Rattle.shorthand.specs.declared.Compiled.{Compiled}
+use Rattle.shorthand.specs.Promise.{told, Compiles, CompilePromise, EndReady, Ends}
 
 -- Where the reading begins, behind so many letters and two variables.
 abbrev pub beginning : ℕ → Piece
@@ -128,7 +128,7 @@ module _ (s numbers : List ℕ) (count : ℕ) (n : Numbers (firsts [] (capitals 
             let k = h.0 in
             omega arith
 
-    module _ (out out' : List ℕ) (r : Compiled) (ends : Ends p ws out out' r) where
+    module _ (out out' : List ℕ) (r : Result ℕ Refusal) (ends : Ends p ws out out' r) where
       -- The sheet that is written is a sheet of the lines.
       written : allowance f.lines ≤ 256 → (m : ℕ) → told r ≡ accepted m → SheetPut p.last 1 46 (rule_in ws) out out' m → (z : Rules) → stored f.lines ≡ z
           → Stored z p.last ws → Compiles (accepted f.lines) out out' (told r)
@@ -158,12 +158,12 @@ module _ (s numbers : List ℕ) (count : ℕ) (n : Numbers (firsts [] (capitals 
               rw (judged_accepted s (length out) f.lines f.lines_are (omega arith) (omega arith)) (written (omega arith) w.0 w.1 w.2 (stored f.lines) refl held)
 
 -- A text that is refused.
-pub compile_refused : (s out : List ℕ) (x : ℕ) → Bytes s → lines_of s ≡ refused x 0 → Compiles (judged s (length out)) out out (refused x 0)
-compile_refused s out x u e = rw (judged_refused s (length out) x 0 u e) (refl, refl)
+pub compile_refused : (s out : List ℕ) (x : Refusal) → Bytes s → lines_of s ≡ refused (refusal_number x) (line_of x) → CompilePromise s out out (Err x)
+compile_refused s out x u e = rw (judged_refused s (length out) _ _ u e) (refl, refl)
 
-module _ (number : ℕ → ℕ) (E : ℕ) (s : List ℕ) (from : Piece) (ws : List ℕ) (r : Read) (ws' : List ℕ) (g : LinesRead number E s from ws r ws') where
-  pub lines_found_law : {p : Piece} → r ≡ Found p → LinesFound number E s from ws p ws'
-  lines_found_law e = subst (λ (o : Read). LinesRead number E s from ws o ws') e g
+module _ (number : ℕ → ℕ) (E : ℕ) (s : List ℕ) (from : Piece) (ws : List ℕ) (r : Result Piece Refusal) (ws' : List ℕ) (g : LinesRead number E s from ws r ws') where
+  pub lines_found_law : {p : Piece} → r ≡ Ok p → LinesFound number E s from ws p ws'
+  lines_found_law e = subst (λ (o : Result Piece Refusal). LinesRead number E s from ws o ws') e g
 
-  pub lines_faulted : {x : ℕ} → r ≡ Fault x → lines_of s ≡ refused x 0
-  lines_faulted e = subst (λ (o : Read). LinesRead number E s from ws o ws') e g
+  pub lines_faulted : {x : Refusal} → r ≡ Err x → lines_of s ≡ refused (refusal_number x) (line_of x)
+  lines_faulted e = subst (λ (o : Result Piece Refusal). LinesRead number E s from ws o ws') e g

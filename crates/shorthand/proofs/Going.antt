@@ -1,10 +1,14 @@
 -- The lines of a text, one after another. Assumes nothing.
+use Rattle.std.specs.Prelude.{Result, Ok, Err}
+use mathlib.Core.Bool.{Bool, false}
 use mathlib.Core.List.{List, [], ◌∷◌, ◌++◌}
 use mathlib.Core.Path.{◌≡◌, refl, ap, ◌∙◌, subst}
 use Prim.Native.Nat.{ℕ, suc, ◌+◌, ◌-◌, ◌≤◌, ◌<◌}
 use native.Mathlib.Omega.{arith}
 use lib.ListN.{length, drop, replicate, get_or-replicate, length-replicate}
+use Rattle.grammar.specs.Numbers.{number_of, line_of}
 use Rattle.grammar.specs.Refusal.{refused, accepted}
+use Rattle.grammar.specs.declared.refusal.Refusal.{Refusal}
 use Rattle.notation.specs.Emit.{Rules, line_rules}
 use Rattle.notation.specs.Scan.{before, finish, scan, lines_of}
 use Rattle.notation.specs.Text.{Line, line, cost}
@@ -13,16 +17,14 @@ use Rattle.letters.proofs.Lettered.{index_in}
 use Rattle.pieces.specs.Piece.{Ready}
 use Rattle.pieces.specs.Store.{capped, Stored, Few}
 use Rattle.pieces.specs.declared.Piece.{Piece}
-use Rattle.pieces.specs.declared.Read.{Read}
-use Rattle.pieces.specs.declared.Read.TheVariants.{Found, Fault}
 use Rattle.pieces.proofs.Scanning.{at_end_law}
 use Rattle.shorthand.specs.Lines.{Defines, LineReady, LineFinds, LineReads, LinesFound}
 
 -- No letter has a line yet.
-defines_none : {lines : List ℕ} → lines ≡ replicate 26 0 → Defines [] lines
+defines_none : {lines : List Bool} → lines ≡ replicate 26 false → Defines [] lines
 defines_none e = record {
-  size = rw e (length-replicate {A = ℕ} 26 0);
-  held = λ A known. rw (e, get_or-replicate {A = ℕ} 26 (A - 65) 0 0 (index_in A known).1) refl;
+  size = rw e (length-replicate {A = Bool} 26 false);
+  held = λ A known. rw (e, get_or-replicate {A = Bool} 26 (A - 65) false false (index_in A known).1) refl;
 }
 
 some_more : {A : Type 0} (xs : List A) (x : A) → xs ++ x ∷ [] ≡ [] → ⊥
@@ -31,7 +33,7 @@ some_more (y ∷ xs) x e = let h : suc (length (xs ++ x ∷ [])) ≡ 0 = ap leng
 
 module _ (number : ℕ → ℕ) (E : ℕ) (s : List ℕ) (from : Piece) (ws₀ : List ℕ) where
   -- What was read up to here: some lines, and their rules.
-  pub record Going (here : Piece) (lines ws : List ℕ) : Type 0 where
+  pub record Going (here : Piece) (lines : List Bool) (ws : List ℕ) : Type 0 where
     pub so_far : List Line
     pub inside : here.at ≤ length s
     pub some_line : 0 < here.at → so_far ≡ [] → ⊥
@@ -41,7 +43,7 @@ module _ (number : ℕ → ℕ) (E : ℕ) (s : List ℕ) (from : Piece) (ws₀ :
     pub cost_is : here.cost ≡ capped (from.cost + cost so_far)
     pub stores : (z : Rules) → Stored z from.last ws₀ → Stored (line_rules number E (E + 1) so_far z) here.last ws
 
-  pub begins : {lines : List ℕ} → from.at ≡ 0 → Few from → lines ≡ replicate 26 0 → Going from lines ws₀
+  pub begins : {lines : List Bool} → from.at ≡ 0 → Few from → lines ≡ replicate 26 false → Going from lines ws₀
   unfolding cost line_rules
   begins z few e = record {
     so_far = [];
@@ -54,7 +56,7 @@ module _ (number : ℕ → ℕ) (E : ℕ) (s : List ℕ) (from : Piece) (ws₀ :
     stores = λ z h. h;
   }
 
-  module _ {here : Piece} {lines ws : List ℕ} (g : Going here lines ws) where
+  module _ {here : Piece} {lines : List Bool} {ws : List ℕ} (g : Going here lines ws) where
     pub line_ready : {numbers : List ℕ} {always : ℕ} → Ready s numbers always 0 from → here.at < length s → LineReady s numbers always here
     line_ready r l = record {
       inside = l;
@@ -62,7 +64,7 @@ module _ (number : ℕ → ℕ) (E : ℕ) (s : List ℕ) (from : Piece) (ws₀ :
     }
 
     -- One line more,
-    pub goes_on : {next : Piece} {lines' ws' : List ℕ} → LineFinds number E s here lines ws next lines' ws' → Going next lines' ws'
+    pub goes_on : {next : Piece} {lines' : List Bool} {ws' : List ℕ} → LineFinds number E s here lines ws next lines' ws' → Going next lines' ws'
     goes_on f =
         let l = f.low in
         let a = g.cost_is in
@@ -79,8 +81,8 @@ module _ (number : ℕ → ℕ) (E : ℕ) (s : List ℕ) (from : Piece) (ws₀ :
         }
 
     -- or none that is of the form,
-    pub faults : {x : ℕ} → ((ls : List Line) → Defines ls lines → scan (drop here.at s) (before ls) ≡ refused x 0) → lines_of s ≡ refused x 0
-    faults f = g.scanned ∙ f g.so_far g.defines
+    pub faults : (x : Refusal) → ((ls : List Line) → Defines ls lines → scan (drop here.at s) (before ls) ≡ refused (number_of x) (line_of x)) → lines_of s ≡ refused (number_of x) (line_of x)
+    faults x f = g.scanned ∙ f g.so_far g.defines
 
     finished : (ls : List Line) → (ls ≡ [] → ⊥) → finish (before ls) ≡ accepted ls
     finished [] n = absurd (n refl)
@@ -104,10 +106,10 @@ unfolding scan
 empty_text [] e = refl
 empty_text (b ∷ s) e = absurd (omega arith)
 
-module _ (number : ℕ → ℕ) (E : ℕ) (s : List ℕ) (from : Piece) (lines ws : List ℕ) (r : Read) (lines' ws' : List ℕ)
+module _ (number : ℕ → ℕ) (E : ℕ) (s : List ℕ) (from : Piece) (lines : List Bool) (ws : List ℕ) (r : Result Piece Refusal) (lines' : List Bool) (ws' : List ℕ)
     (g : LineReads number E s from lines ws r lines' ws') where
-  pub line_found_law : {p : Piece} → r ≡ Found p → LineFinds number E s from lines ws p lines' ws'
-  line_found_law e = subst (λ (o : Read). LineReads number E s from lines ws o lines' ws') e g
+  pub line_found_law : {p : Piece} → r ≡ Ok p → LineFinds number E s from lines ws p lines' ws'
+  line_found_law e = subst (λ (o : Result Piece Refusal). LineReads number E s from lines ws o lines' ws') e g
 
-  pub line_faulted : {x : ℕ} → r ≡ Fault x → (ls : List Line) → Defines ls lines → scan (drop from.at s) (before ls) ≡ refused x 0
-  line_faulted e = subst (λ (o : Read). LineReads number E s from lines ws o lines' ws') e g
+  pub line_faulted : {x : Refusal} → r ≡ Err x → (ls : List Line) → Defines ls lines → scan (drop from.at s) (before ls) ≡ refused (number_of x) (line_of x)
+  line_faulted e = subst (λ (o : Result Piece Refusal). LineReads number E s from lines ws o lines' ws') e g

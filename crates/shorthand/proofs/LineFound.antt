@@ -1,10 +1,13 @@
 -- A line of a text is found, or refused. Assumes nothing.
+use mathlib.Core.Bool.{Bool, true}
 use mathlib.Core.List.{List, []}
 use mathlib.Core.Path.{◌≡◌, refl, ◌∙◌}
 use Prim.Native.Nat.{ℕ, ◌+◌, ◌-◌}
 use native.Mathlib.Omega.{arith}
 use lib.ListN.{get_or, set, drop}
+use Rattle.grammar.specs.Numbers.{number_of, line_of}
 use Rattle.grammar.specs.Refusal.{refused}
+use Rattle.grammar.specs.declared.refusal.Refusal.{Refusal}
 use Rattle.notation.specs.Scan.{before, scan}
 use Rattle.notation.specs.Emit.{choice_rules}
 use Rattle.notation.specs.Text.{Line}
@@ -23,7 +26,7 @@ behind_equals E from = record { at = from.at + 2; variable = E; last = from.last
 abbrev pub behind_line : Piece → Piece
 behind_line p = record { at = p.at + 1; variable = p.variable; last = p.last; cost = p.cost }
 
-module _ (numbers : List ℕ) (E : ℕ) (s : List ℕ) (from : Piece) (lines : List ℕ) (r : LineReady s numbers E from) (o : Opens s from.at lines) where
+module _ (numbers : List ℕ) (E : ℕ) (s : List ℕ) (from : Piece) (lines : List Bool) (r : LineReady s numbers E from) (o : Opens s from.at lines) where
   pub choice_ready : Ready s numbers E 0 (behind_equals E from)
   choice_ready =
       let l = before_end s (from.at + 1) 61 (omega arith) o.equals in
@@ -38,9 +41,9 @@ module _ (numbers : List ℕ) (E : ℕ) (s : List ℕ) (from : Piece) (lines : L
       }
 
   -- Its choice is refused.
-  pub choice_refused : {x : ℕ} → ((u : Unit {0}) → Refuses s 0 (from.at + 2) ((choices (number_held numbers) E).before u) x)
-      → (ls : List Line) → Defines ls lines → scan (drop from.at s) (before ls) ≡ refused x 0
-  choice_refused f ls d = line_opens s from.at lines ls r.inside d o ∙ f tt ls (get_or s from.at 0) [] refl
+  pub choice_refused : (x : Refusal) → ((u : Unit {0}) → Refuses s 0 (from.at + 2) ((choices (number_held numbers) E).before u) x)
+      → (ls : List Line) → Defines ls lines → scan (drop from.at s) (before ls) ≡ refused (number_of x) (line_of x)
+  choice_refused x f ls d = line_opens s from.at lines ls r.inside d o ∙ f tt ls (get_or s from.at 0) [] refl
 
   module _ {ws ws₁ : List ℕ} {p : Piece} (f : Finds (choices (number_held numbers) E) s 0 (behind_equals E from) ws p ws₁) where
     -- Its choice does not end with byte 10.
@@ -50,9 +53,9 @@ module _ (numbers : List ℕ) (E : ℕ) (s : List ℕ) (from : Piece) (lines : L
         ∙ line_not_ended s p.at e.0 e.1 n _ ls (get_or s from.at 0)
 
     -- It does, and its letter has a rule.
-    pub line_is : {ws₂ : List ℕ} → get_or s p.at 0 ≡ 10 → Names (number_held numbers (get_or s from.at 0)) E p.variable ws₁ ws₂
-        → LineFinds (number_held numbers) E s from lines ws (behind_line p) (set lines (get_or s from.at 0 - 65) 1) ws₂
-    line_is e names =
+    pub line_is : (i : ℕ) {ws₂ : List ℕ} → i ≡ get_or s from.at 0 - 65 → get_or s p.at 0 ≡ 10 → Names (get_or numbers i 0) E p.variable ws₁ ws₂
+        → LineFinds (number_held numbers) E s from lines ws (behind_line p) (set lines i true) ws₂
+    line_is i {ws₂} same e names =
         let l = before_end s p.at 10 (omega arith) e in
         let b = f.low in
         let few = f.few in
@@ -64,8 +67,8 @@ module _ (numbers : List ℕ) (E : ℕ) (s : List ℕ) (from : Piece) (lines : L
           moves = λ ls d.
               line_opens s from.at lines ls r.inside d o ∙ f.moves tt ls (get_or s from.at 0) [] refl
               ∙ line_ends s p.at e f.piece ls (get_or s from.at 0);
-          defines = λ ls d. defines_more ls lines (get_or s from.at 0) f.piece o.letter d;
+          defines = λ ls d. rw same (defines_more ls lines (get_or s from.at 0) f.piece o.letter d);
           few = record { variable_few = few.variable_few; last_few = few.last_few; cost_few = few.cost_few };
           cost_is = f.cost_is;
-          stores = λ z h. stored_line (number_held numbers) E (get_or s from.at 0) (choice_rules (number_held numbers) E (E + 1) f.piece z) p.variable p.last ws₁ _ (f.stores z h) names;
+          stores = λ z h. stored_line (number_held numbers) E (get_or s from.at 0) (choice_rules (number_held numbers) E (E + 1) f.piece z) p.variable p.last ws₁ ws₂ (f.stores z h) (rw same at names);
         }

@@ -1,5 +1,5 @@
 -- One line of a text: its beginning, its end, its letter. Assumes nothing.
-use mathlib.Core.Bool.{Bool, true, false, ◌&&◌, ◌||◌, true≢false}
+use mathlib.Core.Bool.{Bool, true, false, not, ◌&&◌, ◌||◌, true≢false}
 use mathlib.Core.List.{List, [], ◌∷◌, ◌++◌}
 use mathlib.Core.Option.{none}
 use mathlib.Core.Path.{◌≡◌, refl, sym, ap, ◌∙◌, subst}
@@ -26,30 +26,30 @@ use Rattle.shorthand.specs.Lines.{Defines, opens_line, Names}
 -- ---- The letter and `=`.
 
 -- What a line begins with.
-pub record Opens (s : List ℕ) (at : ℕ) (lines : List ℕ) : Type 0 where
+pub record Opens (s : List ℕ) (at : ℕ) (lines : List Bool) : Type 0 where
   pub letter : capital (get_or s at 0) ≡ true
-  pub new : get_or lines (get_or s at 0 - 65) 0 ≡ 0
+  pub new : get_or lines (get_or s at 0 - 65) false ≡ false
   pub equals : get_or s (at + 1) 0 ≡ 61
 
-pub opens_parts : (s : List ℕ) (at : ℕ) (lines : List ℕ) → opens_line s at lines ≡ true → Opens s at lines
+pub opens_parts : (s : List ℕ) (at : ℕ) (lines : List Bool) → opens_line s at lines ≡ true → Opens s at lines
 unfolding opens_line
-opens_parts s at lines e = go (capital (get_or s at 0)) (eqb (get_or lines (get_or s at 0 - 65) 0) 0) (eqb (get_or s (at + 1) 0) 61) refl refl refl e
+opens_parts s at lines e = go (capital (get_or s at 0)) (get_or lines (get_or s at 0 - 65) false) (eqb (get_or s (at + 1) 0) 61) refl refl refl e
   where
-    go : (t u w : Bool) → capital (get_or s at 0) ≡ t → eqb (get_or lines (get_or s at 0 - 65) 0) 0 ≡ u → eqb (get_or s (at + 1) 0) 61 ≡ w → (t && (u && w)) ≡ true → Opens s at lines
-    go true true true p q r h = record { letter = p; new = eqb-true _ 0 q; equals = eqb-true _ 61 r }
-    go true true false p q r h = absurd (true≢false (sym h))
-    go true false w p q r h = absurd (true≢false (sym h))
+    go : (t u w : Bool) → capital (get_or s at 0) ≡ t → get_or lines (get_or s at 0 - 65) false ≡ u → eqb (get_or s (at + 1) 0) 61 ≡ w → (t && (not u && w)) ≡ true → Opens s at lines
+    go true false true p q r h = record { letter = p; new = q; equals = eqb-true _ 61 r }
+    go true false false p q r h = absurd (true≢false (sym h))
+    go true true w p q r h = absurd (true≢false (sym h))
     go false u w p q r h = absurd (true≢false (sym h))
 
 -- Its letter is one of 26.
-pub letter_index : (s : List ℕ) (at : ℕ) (lines : List ℕ) → opens_line s at lines ≡ true → (65 ≤ get_or s at 0) × (get_or s at 0 - 65 < 26)
+pub letter_index : (s : List ℕ) (at : ℕ) (lines : List Bool) → opens_line s at lines ≡ true → (65 ≤ get_or s at 0) × (get_or s at 0 - 65 < 26)
 letter_index s at lines e = index_in (get_or s at 0) (opens_parts s at lines e).letter
 
-module _ (s : List ℕ) (at : ℕ) (lines : List ℕ) (ls : List Line) (inside : at < length s) (d : Defines ls lines) where
+module _ (s : List ℕ) (at : ℕ) (lines : List Bool) (ls : List Line) (inside : at < length s) (d : Defines ls lines) where
   -- A letter that has no line yet.
-  letter_moves : capital (get_or s at 0) ≡ true → get_or lines (get_or s at 0 - 65) 0 ≡ 0 → scan (drop at s) (before ls) ≡ scan (drop (at + 1) s) (named ls (get_or s at 0))
+  letter_moves : capital (get_or s at 0) ≡ true → get_or lines (get_or s at 0 - 65) false ≡ false → scan (drop at s) (before ls) ≡ scan (drop (at + 1) s) (named ls (get_or s at 0))
   unfolding step
-  letter_moves c n = one s at (before ls) inside ∙ rw (c, d.held (get_or s at 0) c, eq-eqb _ 0 n)
+  letter_moves c n = one s at (before ls) inside ∙ rw (c, d.held (get_or s at 0) c, n)
 
   -- `=` behind it, or not.
   pub line_opens : Opens s at lines → scan (drop at s) (before ls) ≡ scan (drop (at + 2) s) (choosing ls (get_or s at 0) [] (part none empty))
@@ -70,13 +70,13 @@ module _ (s : List ℕ) (at : ℕ) (lines : List ℕ) (ls : List Line) (inside :
   -- A line that does not begin so is refused.
   pub not_opened : opens_line s at lines ≡ false → scan (drop at s) (before ls) ≡ refused 15 0
   unfolding opens_line step
-  not_opened e = go (capital (get_or s at 0)) (eqb (get_or lines (get_or s at 0 - 65) 0) 0) (eqb (get_or s (at + 1) 0) 61) refl refl refl e
+  not_opened e = go (capital (get_or s at 0)) (get_or lines (get_or s at 0 - 65) false) (eqb (get_or s (at + 1) 0) 61) refl refl refl e
     where
-      go : (t u w : Bool) → capital (get_or s at 0) ≡ t → eqb (get_or lines (get_or s at 0 - 65) 0) 0 ≡ u → eqb (get_or s (at + 1) 0) 61 ≡ w → (t && (u && w)) ≡ false
+      go : (t u w : Bool) → capital (get_or s at 0) ≡ t → get_or lines (get_or s at 0 - 65) false ≡ u → eqb (get_or s (at + 1) 0) 61 ≡ w → (t && (not u && w)) ≡ false
           → scan (drop at s) (before ls) ≡ refused 15 0
-      go true true true p q r h = absurd (true≢false h)
-      go true true false p q r h = letter_moves p (eqb-true _ 0 q) ∙ no_equals (eqb-false _ 61 r)
-      go true false w p q r h = one s at (before ls) inside ∙ rw (p, d.held (get_or s at 0) p, q)
+      go true false true p q r h = absurd (true≢false h)
+      go true false false p q r h = letter_moves p q ∙ no_equals (eqb-false _ 61 r)
+      go true true w p q r h = one s at (before ls) inside ∙ rw (p, d.held (get_or s at 0) p, q)
       go false u w p q r h = one s at (before ls) inside ∙ rw p
 
 -- ---- The letters that have a line.
@@ -91,17 +91,17 @@ defined_behind (line C e ∷ ls) A B c = rw (defined_behind ls A B c) (go (eqb B
     go false true w = refl
     go false false w = refl
 
-pub defines_more : (ls : List Line) (lines : List ℕ) (A : ℕ) (c : Choice) → capital A ≡ true → Defines ls lines → Defines (ls ++ line A c ∷ []) (set lines (A - 65) 1)
+pub defines_more : (ls : List Line) (lines : List Bool) (A : ℕ) (c : Choice) → capital A ≡ true → Defines ls lines → Defines (ls ++ line A c ∷ []) (set lines (A - 65) true)
 defines_more ls lines A c known d =
     let i = index_in A known in
     let h = d.size in
     record {
-      size = length-set lines (A - 65) 1 ∙ h;
+      size = length-set lines (A - 65) true ∙ h;
       held = λ B known-B. elim (ℕ_discrete B A) [
-        | yes q ↦ rw (defined_behind ls A B c, q, eq-eqb A A refl, get_or-set_same lines (A - 65) 1 0 (omega arith)) refl
+        | yes q ↦ rw (defined_behind ls A B c, q, eq-eqb A A refl, get_or-set_same lines (A - 65) true false (omega arith)) refl
         | no n ↦
             let j = index_in B known-B in
-            rw (defined_behind ls A B c, ne_eqb B A n, get_or-set_other lines (A - 65) (B - 65) 1 0 (λ w. n (omega arith))) (d.held B known-B)
+            rw (defined_behind ls A B c, ne_eqb B A n, get_or-set_other lines (A - 65) (B - 65) true false (λ w. n (omega arith))) (d.held B known-B)
       ];
     }
 

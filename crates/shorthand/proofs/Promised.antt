@@ -1,4 +1,5 @@
 -- What any result that meets the contract of `compile` says. Assumes nothing.
+use Rattle.std.specs.Prelude.{Result}
 use mathlib.Core.Bool.{true≢false}
 use mathlib.Core.List.{List}
 use mathlib.Core.Logic.{◌↔◌}
@@ -7,6 +8,7 @@ use Prim.Native.Nat.{ℕ, ◌≤◌}
 use native.Mathlib.Omega.{arith}
 use lib.ListN.{length}
 use Rattle.grammar.specs.Refusal.{Checked, refused, accepted}
+use Rattle.grammar.specs.declared.refusal.Refusal.{Refusal}
 use Rattle.grammar.proofs.Accepted.{describes}
 use Rattle.grammar.proofs.Refusals.{refused_each}
 use Rattle.notation.specs.Judged.{text_condition, text_order, TextRefuses, lines_in, judged}
@@ -14,9 +16,8 @@ use Rattle.notation.specs.Scan.{lines_of}
 use Rattle.notation.specs.Text.{Line}
 use Rattle.notation.proofs.TextRefusals.{text_refused}
 use Rattle.shorthand.specs.Promise.{told, Compiles, CompilePromise}
-use Rattle.shorthand.specs.declared.Compiled.{Compiled}
 
-module _ (s out out' : List ℕ) (r : Compiled) (promise : CompilePromise s out out' r) where
+module _ (s out out' : List ℕ) (r : Result ℕ Refusal) (promise : CompilePromise s out out' r) where
   given : (o : Checked (List Line)) → judged s (length out) ≡ o → Compiles o out out' (told r)
   given o e = subst (λ (o : Checked (List Line)). Compiles o out out' (told r)) e promise
 

@@ -1,6 +1,8 @@
 -- Document 02, order 1: the lines of a text, read one after another, and the rules that are stored. Assumes nothing.
-use Rattle.std.specs.Prelude.{Bool, true, not, ◌&&◌, List, [], ◌∷◌, ◌++◌, ◌≡◌, ℕ, ◌+◌, ◌-◌, ◌≤◌, ◌<◌, eqb, length, get_or, drop}
+use Rattle.std.specs.Prelude.{Bool, true, false, not, ◌&&◌, Result, Ok, Err, List, [], ◌∷◌, ◌++◌, ◌≡◌, ℕ, ◌+◌, ◌-◌, ◌≤◌, ◌<◌, eqb, length, get_or, drop}
+use Rattle.grammar.specs.Numbers.{number_of, line_of}
 use Rattle.grammar.specs.Refusal.{refused, accepted}
+use Rattle.grammar.specs.declared.refusal.Refusal.{Refusal}
 use Rattle.grammar.specs.Rule.{Rule, call}
 use Rattle.grammar.specs.Words.{words}
 use Rattle.notation.specs.Emit.{Rules, with, choice_rules, ruled, line_rules}
@@ -9,17 +11,15 @@ use Rattle.notation.specs.Text.{Choice, Line, line, choice_cost, cost, capital}
 use Rattle.pieces.specs.Piece.{Ready}
 use Rattle.pieces.specs.Store.{capped, Stored, Few}
 use Rattle.pieces.specs.declared.Piece.{Piece}
-use Rattle.pieces.specs.declared.Read.{Read}
-use Rattle.pieces.specs.declared.Read.TheVariants.{Found, Fault}
 
--- The array holds a number that is not 0 for each letter that has one of these lines.
-pub record Defines (ls : List Line) (lines : List ℕ) : Type 0 where
+-- The array says of each letter whether it has one of these lines.
+pub record Defines (ls : List Line) (lines : List Bool) : Type 0 where
   pub size : length lines ≡ 26
-  pub held : (A : ℕ) → capital A ≡ true → defined ls A ≡ not (eqb (get_or lines (A - 65) 0) 0)
+  pub held : (A : ℕ) → capital A ≡ true → defined ls A ≡ get_or lines (A - 65) false
 
 -- "a capital letter (65-90), `=`", of a letter that has no line yet.
-unfoldable pub opens_line : List ℕ → ℕ → List ℕ → Bool
-opens_line s at lines = capital (get_or s at 0) && (eqb (get_or lines (get_or s at 0 - 65) 0) 0 && eqb (get_or s (at + 1) 0) 61)
+unfoldable pub opens_line : List ℕ → ℕ → List Bool → Bool
+opens_line s at lines = capital (get_or s at 0) && (not (get_or lines (get_or s at 0 - 65) false) && eqb (get_or s (at + 1) 0) 61)
 
 -- The words of the rules, with that of a letter: it acts as the variable y.
 abbrev pub Names : ℕ → ℕ → ℕ → List ℕ → List ℕ → Type 0
@@ -34,7 +34,7 @@ pub record LineReady (s numbers : List ℕ) (always : ℕ) (from : Piece) : Type
 -- By the variable of each capital, and E, the variable that always succeeds; the one behind E always fails.
 module _ (number : ℕ → ℕ) (E : ℕ) where
   -- A line was read from one end to another, and its rules stored.
-  pub record LineFinds (s : List ℕ) (from : Piece) (lines ws : List ℕ) (p : Piece) (lines' ws' : List ℕ) : Type 0 where
+  pub record LineFinds (s : List ℕ) (from : Piece) (lines : List Bool) (ws : List ℕ) (p : Piece) (lines' : List Bool) (ws' : List ℕ) : Type 0 where
     pub letter : ℕ
     pub choice : Choice
     pub low : from.at < p.at
@@ -45,10 +45,10 @@ module _ (number : ℕ → ℕ) (E : ℕ) where
     pub cost_is : p.cost ≡ capped (from.cost + choice_cost choice)
     pub stores : (z : Rules) → Stored z from.last ws → Stored (ruled number E (E + 1) letter (choice_rules number E (E + 1) choice z)) p.last ws'
 
-  -- What a reader of a line promises: one that is found, or the number of a refusal.
-  abbrev pub LineReads : List ℕ → Piece → List ℕ → List ℕ → Read → List ℕ → List ℕ → Type 0
-  LineReads s from lines ws (Found p) lines' ws' = LineFinds s from lines ws p lines' ws'
-  LineReads s from lines ws (Fault x) lines' ws' = (ls : List Line) → Defines ls lines → scan (drop from.at s) (before ls) ≡ refused x 0
+  -- What a reader of a line promises: one that is found, or a refusal.
+  abbrev pub LineReads : List ℕ → Piece → List Bool → List ℕ → Result Piece Refusal → List Bool → List ℕ → Type 0
+  LineReads s from lines ws (Ok p) lines' ws' = LineFinds s from lines ws p lines' ws'
+  LineReads s from lines ws (Err e) lines' ws' = (ls : List Line) → Defines ls lines → scan (drop from.at s) (before ls) ≡ refused (number_of e) (line_of e)
 
 -- ---- All lines.
 
@@ -65,7 +65,7 @@ module _ (number : ℕ → ℕ) (E : ℕ) where
     pub cost_is : p.cost ≡ capped (from.cost + cost lines)
     pub stores : (z : Rules) → Stored z from.last ws → Stored (line_rules number E (E + 1) lines z) p.last ws'
 
-  -- What the reader of a text promises: its lines, or the number of its refusal.
-  abbrev pub LinesRead : List ℕ → Piece → List ℕ → Read → List ℕ → Type 0
-  LinesRead s from ws (Found p) ws' = LinesFound s from ws p ws'
-  LinesRead s from ws (Fault x) ws' = lines_of s ≡ refused x 0
+  -- What the reader of a text promises: its lines, or its refusal.
+  abbrev pub LinesRead : List ℕ → Piece → List ℕ → Result Piece Refusal → List ℕ → Type 0
+  LinesRead s from ws (Ok p) ws' = LinesFound s from ws p ws'
+  LinesRead s from ws (Err e) ws' = lines_of s ≡ refused (number_of e) (line_of e)

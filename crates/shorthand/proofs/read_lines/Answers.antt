@@ -1,29 +1,18 @@
-use mathlib.Core.Path.{refl}
+use Rattle.std.proofs.lemmas.Bool.Decides.{nat_tests}
+use borrow.Author.Tests.{eqb-true}
+use mathlib.Core.Path.{refl, sym}
 use native.Mathlib.Omega.{arith}
-use Rattle.shorthand.proofs.Going.{begins, line_ready, goes_on, faults, ends, empty_text, line_found_law, line_faulted}
+use Rattle.shorthand.proofs.Going.{begins, goes_on, ends, empty_text}
 use Rattle.shorthand.proofs.read_lines.Goals as goal
 
-pub returns-then-s-eq0 : goal.returns-then-s-eq0
-returns-then-s-eq0 c = empty_text _ c.if-s-eq0.true
+pub returns-then-is_empty : goal.returns-then-is_empty
+returns-then-is_empty c = empty_text _ (eqb-true _ 0 (sym c.if-is_empty.ensures))
 
 pub loop-here-init : goal.loop-here-init
 loop-here-init c = begins _ _ _ _ _ c.requires.begins c.requires.ready.few refl
 
-pub read_line-requires : goal.read_line-requires
-read_line-requires c = line_ready _ _ _ _ _ c.loop-here.invariant c.requires.ready (omega arith)
-
-pub returns-in-Fault : goal.returns-in-Fault
-returns-in-Fault c = faults _ _ _ _ _ c.loop-here.invariant (line_faulted _ _ _ _ _ _ _ _ _ c.read_line.ensures c.in-Fault.is)
-
-pub loop-here-smaller : goal.loop-here-smaller
-loop-here-smaller c =
-    let f = line_found_law _ _ _ _ _ _ _ _ _ c.read_line.ensures c.in-Found.is in
-    let l = f.low in
-    let h = f.high in
-    omega arith
-
 pub loop-here-preserved : goal.loop-here-preserved
-loop-here-preserved c = goes_on _ _ _ _ _ c.loop-here.invariant (line_found_law _ _ _ _ _ _ _ _ _ c.read_line.ensures c.in-Found.is)
+loop-here-preserved c = goes_on _ _ _ _ _ c.loop-here.invariant c.in_ok-here.ensures
 
 pub returns : goal.returns
-returns c = ends _ _ _ _ _ c.loop-here.invariant (omega arith) (omega arith)
+returns c = ends _ _ _ _ _ c.loop-here.invariant (grind (arith, nat_tests)) (omega arith)
