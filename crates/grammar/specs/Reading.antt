@@ -2,9 +2,10 @@
 use Rattle.std.specs.Prelude.{cond, List, [], ◌∷◌, ◌≡◌, ℕ, ◌+◌, ◌-◌, ◌≤◌, Result, Ok, Err, Option as Maybe, Some, None}
 use Rattle.std.proofs.Math.Option.{Option, none, some, get_or}
 use Rattle.grammar.specs.Refusal.{Checked, checked}
-use Rattle.grammar.specs.Rule.{absent, within}
+use Rattle.grammar.specs.Rule.{Rule, absent}
 use Rattle.grammar.specs.Sheet.{lines, variables_of, start_of, endmarker_of, variable_at, variable_before, rule_at, rule_within, condition, header_order, line_order, rule_order}
-use Rattle.grammar.specs.Words.{four_bytes, word, words}
+use Rattle.grammar.specs.Words.{word, words, rule_held}
+use Rattle.grammar.specs.declared.rule.Rule.{Rule as Held}
 use Rattle.grammar.specs.Numbers.{checked_as}
 use Rattle.grammar.specs.declared.refusal.Refusal.{Refusal}
 
@@ -13,14 +14,10 @@ abbrev pub numbers_of : Maybe (List ℕ) → Option (List ℕ)
 numbers_of (Some numbers) = some numbers
 numbers_of None = none
 
--- The word of a rule that fits.
-abbrev pub word_of : Maybe ℕ → Option ℕ
-word_of (Some w) = some w
-word_of None = none
-
--- The word of a rule with one operand at most.
-abbrev pub leaf_word : ℕ → ℕ → ℕ → ℕ → Option ℕ
-leaf_word kind least greatest x = cond (within least greatest x) (some (four_bytes (kind + 1) x 0 0)) none
+-- The rule of a kind and operands that fit.
+abbrev pub rule_given : Maybe Held → Option Rule
+rule_given (Some r) = some (rule_held r)
+rule_given None = none
 
 -- "line 1 for 2, 3": the first refusal of line 1, or its numbers.
 unfoldable pub header_found : List ℕ → Checked (List ℕ)

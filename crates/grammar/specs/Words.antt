@@ -1,6 +1,8 @@
 -- How the code holds the rules: a number of four bytes for each variable. Assumes nothing.
 use Rattle.std.specs.Prelude.{Bool, true, false, cond, List, [], ◌∷◌, ℕ, zero, suc, ◌+◌, ◌-◌, ◌*◌, ◌/◌, ◌%◌, eqb, get_or}
 use Rattle.grammar.specs.Rule.{Rule, absent, always, never, byte, class, call}
+use Rattle.grammar.specs.declared.rule.Rule.{Rule as Held}
+use Rattle.grammar.specs.declared.rule.Rule.TheVariants.{Absent, Always, Never, Byte, Class, Call}
 
 -- The number of four bytes, the highest first.
 abbrev pub four_bytes : ℕ → ℕ → ℕ → ℕ → ℕ
@@ -39,6 +41,15 @@ rule_for w =
 abbrev pub rule_in : List ℕ → ℕ → Rule
 rule_in ws zero = absent
 rule_in ws (suc i) = rule_for (get_or ws i 0)
+
+-- What each case of the code's rule says.
+abbrev pub rule_held : Held → Rule
+rule_held Absent = absent
+rule_held Always = always
+rule_held Never = never
+rule_held (Byte b) = byte b
+rule_held (Class c) = class c
+rule_held (Call B C D) = call B C D
 
 -- What a word's last two bytes say of a rule of kind 4: the variable called second after a success, or after a failure. Any word has these bytes.
 abbrev pub second_for : Bool → ℕ → ℕ

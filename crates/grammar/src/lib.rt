@@ -2,4 +2,5 @@
 #![tactic(auto)]
 
 pub mod refusal;
+pub mod rule;
 pub mod sheet;

@@ -1,14 +1,13 @@
 // Reads a rule sheet: the grammar that it describes, or its first refusal.
 ghost use Rattle.std.specs.Prelude.{◌≡◌, ◌*◌, ◌≤◌, length};
-ghost use Rattle.std.proofs.Math.Option.{map};
 ghost use Rattle.columns.specs.Column.{fields};
-ghost use Rattle.grammar.specs.Rule.{rule_of};
-ghost use Rattle.grammar.specs.Words.{four_bytes, word};
+ghost use Rattle.grammar.specs.Rule.{within, rule_of};
 ghost use Rattle.grammar.specs.Sheet.{not_lines, open_line};
-ghost use Rattle.grammar.specs.Reading.{numbers_of, word_of, leaf_word, header_found, line_says, line_found, Before, rules_say, rules_found, Ready, Stored};
+ghost use Rattle.grammar.specs.Reading.{numbers_of, rule_given, header_found, line_says, line_found, Before, rules_say, rules_found, Ready, Stored};
 ghost use Rattle.grammar.specs.Promise.{told, SheetPromise};
 
 use crate::refusal::Refusal;
+use crate::rule::Rule;
 use columns::{Cursor, Field};
 
 // The words of the rules of variables 1 to 256.
@@ -116,7 +115,7 @@ fn read_header(s: &[u8]) -> Result<Grammar, Refusal>
 
 // Is x among low to high?
 fn within(low: u32, high: u32, x: u32) -> bool
-    ensures { result ≡ Rattle.grammar.specs.Rule.within low high x }
+    ensures { result ≡ within low high x }
 {
     if x < low {
         return false;
@@ -124,69 +123,35 @@ fn within(low: u32, high: u32, x: u32) -> bool
     x <= high
 }
 
-// A word of four bytes, the highest first.
-fn pack(a: u32, b: u32, c: u32, d: u32) -> u32
-    requires { (a ≤ 5) × (b ≤ 255) × (c ≤ 255) × (d ≤ 255) }
-    ensures { result ≡ four_bytes a b c d }
+// The rule that calls x, y and z, of v variables.
+#[tactic(auto, unfolding(crate::specs::Rule::rule_of))]
+fn call_of(v: u32, x: u32, y: u32, z: u32) -> Option<Rule>
+    ensures { rule_given result ≡ rule_of v 4 x y z }
 {
-    16777216 * a + 65536 * b + 256 * c + d
-}
-
-// The word of a rule with one operand at most: its least and its greatest value are given.
-fn leaf_word(kind: u32, least: u32, greatest: u32, x: u32) -> Option<u32>
-    requires { (kind ≤ 3) × (greatest ≤ 255) }
-    ensures { word_of result ≡ leaf_word kind least greatest x }
-{
-    if !within(least, greatest, x) {
-        return None;
-    }
-    Some(pack(kind + 1, x, 0, 0))
-}
-
-// The word of a rule that calls x, y and z, of v variables.
-fn call_word(v: u32, x: u32, y: u32, z: u32) -> Option<u32>
-    requires { v ≤ 256 }
-    ensures { word_of result ≡ map word (rule_of v 4 x y z) }
-{
-    if !within(1, v, x) {
-        return None;
-    }
-    if !within(1, v, y) {
-        return None;
-    }
-    if !within(1, v, z) {
-        return None;
-    }
-    Some(pack(5, x - 1, y - 1, z - 1))
-}
-
-// The word of a rule of v variables: its kind, and its operands.
-fn rule_word(v: u32, kind: u32, x: u32, y: u32, z: u32) -> Option<u32>
-    requires { v ≤ 256 }
-    ensures { word_of result ≡ map word (rule_of v kind x y z) }
-{
-    if kind == 4 {
-        return call_word(v, x, y, z);
-    }
-    if y != 0 {
-        return None;
-    }
-    if z != 0 {
-        return None;
-    }
-    if kind == 0 {
-        return leaf_word(0, 0, 0, x);
-    }
-    if kind == 1 {
-        return leaf_word(1, 0, 0, x);
-    }
-    if kind == 2 {
-        return leaf_word(2, 0, 255, x);
-    }
-    if kind == 3 {
-        return leaf_word(3, 1, 6, x);
+    if within(1, v, x) && within(1, v, y) && within(1, v, z) {
+        return Some(Rule::Call(x, y, z));
     }
     None
+}
+
+// The rule of a kind and its operands x, y and z, of v variables.
+#[tactic(auto, unfolding(crate::specs::Rule::rule_of))]
+fn rule_of(v: u32, kind: u32, x: u32, y: u32, z: u32) -> Option<Rule>
+    ensures { rule_given result ≡ rule_of v kind x y z }
+{
+    if kind == 4 {
+        return call_of(v, x, y, z);
+    }
+    if y != 0 || z != 0 {
+        return None;
+    }
+    match kind {
+        0 if x == 0 => Some(Rule::Always),
+        1 if x == 0 => Some(Rule::Never),
+        2 if x <= 255 => Some(Rule::Byte(x as u8)),
+        3 if within(1, 6, x) => Some(Rule::Class(x as u8)),
+        _ => None,
+    }
 }
 
 // A rule line after the variable of the line before, for refusals 2, 4 and 5: its variable, and the word of its rule.
@@ -204,8 +169,8 @@ fn read_rule(s: &[u8], line: u32, variables: u32, before: u32) -> Result<(u32, u
     if variable <= before {
         return Err(Refusal::RuleVariable(line));
     }
-    match rule_word(variables, kind, x, y, z) {
-        Some(word) => Ok((variable, word)),
+    match rule_of(variables, kind, x, y, z) {
+        Some(rule) => Ok((variable, rule.word())),
         None => Err(Refusal::Rule(line)),
     }
 }
