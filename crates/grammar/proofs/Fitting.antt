@@ -1,13 +1,10 @@
 -- Tests of bounds. Assumes nothing.
-use mathlib.Core.Path.{◌≡◌, refl, ap, sym}
-use mathlib.Core.Bool.{Bool, true, false, cond, ◌&&◌, ◌||◌, false≢true, and-false}
-use mathlib.Core.Option.{none, some, map}
-use Prim.Native.Nat.{ℕ, zero, suc, ◌+◌, ◌≤◌, ◌<◌}
-use native.Mathlib.Omega.{arith}
-use lib.Dec.{leb, eqb}
-use borrow.Author.Tests.{ne_eqb, leb-true, le-leb, lt-leb}
-use Rattle.grammar.specs.Rule.{Rule, always, never, byte, class, call, within, unused, fitting, rule_of}
-use Rattle.grammar.specs.Words.{four_bytes, word}
+use mathlib.Core.Path.{◌≡◌, refl, sym}
+use mathlib.Core.Bool.{Bool, true, false, ◌&&◌, ◌||◌, false≢true, and-false}
+use Prim.Native.Nat.{ℕ, ◌≤◌, ◌<◌}
+use lib.Dec.{leb}
+use borrow.Author.Tests.{leb-true, le-leb, lt-leb}
+use Rattle.grammar.specs.Rule.{within}
 
 -- Neither of two tests is true.
 pub neither_true : (a b : Bool) → a || b ≡ false → (a ≡ false) × (b ≡ false)

@@ -1,5 +1,5 @@
 -- What the steps of reading a sheet find. Assumes nothing.
-use Rattle.std.specs.Prelude.{cond, List, [], ◌∷◌, ◌≡◌, ℕ, ◌+◌, ◌-◌, ◌≤◌, Result, Ok, Err, Option as Maybe, Some, None}
+use Rattle.std.specs.Prelude.{List, [], ◌∷◌, ◌≡◌, ℕ, ◌-◌, ◌≤◌, Result, Ok, Err, Option as Maybe, Some, None}
 use Rattle.std.proofs.Math.Option.{Option, none, some, get_or}
 use Rattle.grammar.specs.Refusal.{Checked, checked}
 use Rattle.grammar.specs.Rule.{Rule, absent}

@@ -1,47 +1,19 @@
 -- The operands of a kind 4 rule that a word holds. Assumes nothing.
-use mathlib.Core.Bool.{Bool, true, false, cond, ◌||◌, true≢false}
+use mathlib.Core.Bool.{Bool, true, false, cond}
 use mathlib.Core.List.{List}
-use mathlib.Core.Path.{◌≡◌, refl, sym}
+use mathlib.Core.Path.{◌≡◌, sym}
 use Prim.Native.Nat.{ℕ, zero, suc, ◌+◌, ◌-◌, ◌/◌, ◌%◌, ◌≤◌}
 use native.Mathlib.Nat.{suc-ne-zero}
 use native.Mathlib.Omega.{arith}
 use lib.Dec.{eqb}
 use lib.ListN.{get_or}
-use borrow.Author.Tests.{eqb-true}
 use Rattle.grammar.specs.Rule.{Rule, absent, always, never, byte, class, call}
 use Rattle.grammar.specs.Words.{rule_for, rule_in, first_in, second_in}
-use Rattle.grammar.proofs.Fitting.{neither_true}
-use Rattle.schema.specs.Examined.{leaf_reach}
 
 -- The rule of a variable is that of its word.
 pub word_of : (ws : List ℕ) (A : ℕ) → 1 ≤ A → rule_in ws A ≡ rule_for (get_or ws (A - 1) 0)
 word_of ws zero h = absurd (omega arith)
 word_of ws (suc i) h = let q : suc i - 1 ≡ i = omega arith in rw q
-
--- The rule of a word looks at a byte where its kind is that of one, and then reaches one past its position,
-pub looks_byte : (w p : ℕ) → (eqb (w / 16777216) 3 || eqb (w / 16777216) 4) ≡ true → p + 1 ≡ leaf_reach (rule_for w) p
-unfolding rule_for
-looks_byte w p h = by_kind (eqb (w / 16777216) 3) (eqb (w / 16777216) 4) refl refl h
-  where
-    by_kind : (a b : Bool) → eqb (w / 16777216) 3 ≡ a → eqb (w / 16777216) 4 ≡ b → (a || b) ≡ true
-        → p + 1 ≡ leaf_reach (cond (eqb (w / 16777216) 1) always (cond (eqb (w / 16777216) 2) never (cond (eqb (w / 16777216) 3) (byte (w / 65536 % 256))
-        (cond (eqb (w / 16777216) 4) (class (w / 65536 % 256)) (cond (eqb (w / 16777216) 5) (call (w / 65536 % 256 + 1) (w / 256 % 256 + 1) (w % 256 + 1)) absent))))) p
-    by_kind true b e f k = rw (eqb-true (w / 16777216) 3 e)
-    by_kind false true e f k = rw (eqb-true (w / 16777216) 4 f)
-    by_kind false false e f k = absurd (true≢false (sym k))
-
--- and else its position.
-pub no_byte : (w p : ℕ) → (eqb (w / 16777216) 3 || eqb (w / 16777216) 4) ≡ false → p ≡ leaf_reach (rule_for w) p
-unfolding rule_for
-no_byte w p h =
-    let n = neither_true (eqb (w / 16777216) 3) (eqb (w / 16777216) 4) h in
-    rw (n.0, n.1) (go (eqb (w / 16777216) 1) (eqb (w / 16777216) 2) (eqb (w / 16777216) 5))
-  where
-    go : (a b c : Bool) → p ≡ leaf_reach (cond a always (cond b never (cond c (call (w / 65536 % 256 + 1) (w / 256 % 256 + 1) (w % 256 + 1)) absent))) p
-    go true b c = refl
-    go false true c = refl
-    go false false true = refl
-    go false false false = refl
 
 -- The operands B, C, D are those of the word w.
 pub record Operands (w B C D : ℕ) : Type 0 where

@@ -1,16 +1,17 @@
 // The functions that look at a rule, and the tests of what every question is handed.
 #![tactic(auto)]
 
-ghost use Rattle.std.specs.Prelude.{cond, ◌≡◌, ℕ, ◌≤◌, eqb, length, get_or};
+ghost use Rattle.std.specs.Prelude.{◌≡◌, ◌≤◌, length, IsSome, option_map, slice_get};
 ghost use Rattle.classes.specs.Class.{class_of};
 ghost use Rattle.grammar.specs.Words.{rule_in, first_in, second_in};
-ghost use Rattle.schema.specs.Derivation.{act, one_byte, ◌at◌};
+ghost use Rattle.schema.specs.Derivation.{act, ◌at◌};
 ghost use Rattle.schema.specs.Examined.{leaf_reach};
-ghost use Rattle.rules.specs.Act.{told};
+ghost use Rattle.rules.specs.Act.{told, by_seen};
 ghost use Rattle.rules.specs.Admission.{Admission};
 
 use classes::class_of;
 use grammar::refusal::Refusal;
+use grammar::rule::Rule;
 use grammar::sheet::{Grammar, Rules, read_sheet};
 
 // What a rule does at a position: success ending at a position, failure, missing where the variable has no rule, or a call of three variables.
@@ -22,29 +23,30 @@ pub enum Act {
     Calls(u32, u32, u32),
 }
 
-// What a rule of kind 2 or 3 looks at: a byte, or its class.
-fn seen(byte: u8, classed: bool) -> u8
-    ensures { result ≡ cond classed (class_of byte) byte }
+// A rule that wants one byte or class, by what is seen at a position. Order 11: "a byte or class rule at place n fails".
+fn one_byte(position: u32, seen: Option<u8>, wanted: u8) -> Act
+    requires { IsSome seen → position ≤ 4096 }
+    ensures { told result ≡ by_seen position wanted seen }
 {
-    if classed {
-        return class_of(byte);
+    match seen {
+        Some(found) if found == wanted => Act::Success(position + 1),
+        Some(_) => Act::Failure,
+        None => Act::Failure,
     }
-    byte
 }
 
-// A rule of kind 2 or 3 at a position. Order 11: "a byte or class rule at place n fails".
-fn one_byte(input: &[u8], position: u32, classed: bool, wanted: u32) -> Act
-    requires { length input.now ≤ 4096 }
-    ensures { let b = get_or input.now position 0 in told result ≡ one_byte input.now position (eqb (cond classed (class_of b) b) wanted) }
+// The byte at a position, if there is one.
+fn byte_at(input: &[u8], position: u32) -> Option<u8>
+    ensures { result ≡ slice_get input.now position }
 {
-    let at = position as usize;
-    if input.len() <= at {
-        return Act::Failure;
-    }
-    if seen(input[at], classed) as u32 == wanted {
-        return Act::Success(position + 1);
-    }
-    Act::Failure
+    input.get(position as usize).copied()
+}
+
+// The class of that byte.
+fn class_at(input: &[u8], position: u32) -> Option<u8>
+    ensures { result ≡ option_map class_of (slice_get input.now position) }
+{
+    byte_at(input, position).map(class_of)
 }
 
 // What the rule of a variable does at a position, the rules given as words.
@@ -52,24 +54,14 @@ pub fn act_at(rules: &Rules, input: &[u8], variable: u32, position: u32) -> Act
     requires { (1 ≤ variable) × (variable ≤ 256) × (length input.now ≤ 4096) }
     ensures { told result ≡ act (rule_in rules.now) input.now (variable at position) }
 {
-    let word = rules[variable as usize - 1];
-    let kind = word / 16777216;
-    if kind == 5 {
-        return Act::Calls(word / 65536 % 256 + 1, word / 256 % 256 + 1, word % 256 + 1);
+    match Rule::from(rules[variable as usize - 1]) {
+        Rule::Call(b, c, d) => Act::Calls(b, c, d),
+        Rule::Byte(wanted) => one_byte(position, byte_at(input, position), wanted),
+        Rule::Class(wanted) => one_byte(position, class_at(input, position), wanted),
+        Rule::Always => Act::Success(position),
+        Rule::Never => Act::Failure,
+        Rule::Absent => Act::Missing,
     }
-    if kind == 3 {
-        return one_byte(input, position, false, word / 65536 % 256);
-    }
-    if kind == 4 {
-        return one_byte(input, position, true, word / 65536 % 256);
-    }
-    if kind == 1 {
-        return Act::Success(position);
-    }
-    if kind != 2 {
-        return Act::Missing;
-    }
-    Act::Failure
 }
 
 // How far a leaf looks, at a position: one past it where it looks at a byte.
@@ -77,11 +69,10 @@ pub fn leaf_reach(rules: &Rules, variable: u32, position: u32) -> u32
     requires { (1 ≤ variable) × (variable ≤ 256) × (position ≤ 4096) }
     ensures { result ≡ leaf_reach (rule_in rules.now variable) position }
 {
-    let kind = rules[variable as usize - 1] / 16777216;
-    if (kind == 3) | (kind == 4) {
-        return position + 1;
+    match Rule::from(rules[variable as usize - 1]) {
+        Rule::Byte(_) | Rule::Class(_) => position + 1,
+        _ => position,
     }
-    position
 }
 
 // The variable that a kind 4 rule calls first. Of any other rule, what its word's byte says.

@@ -1,54 +1,39 @@
+use mathlib.Core.Path.{ap, ◌∙◌}
+use lib.ListN.{get_or}
+use Rattle.std.specs.Prelude.{option_map}
+use Rattle.std.proofs.lemmas.Option.{slice_get-get_or, slice_get_past}
+use Rattle.classes.specs.Class.{class_of}
+use Rattle.rules.proofs.Seeing.{sees}
 use native.Mathlib.Omega.{arith}
-use borrow.Author.Tests.{ne_eqb}
-use Rattle.grammar.specs.Words.{rule_for}
 use Rattle.rules.proofs.RuleWords.{word_of}
 use Rattle.schema.specs.Derivation.{act_of}
-use borrow.Author.Rules.{rules}
 use Rattle.rules.proofs.act_at.Goals as goal
 
 -- `act_at` does what the rule of the variable does at the position. Assumes nothing.
-pub overflow_sub-word : goal.overflow_sub-word
-overflow_sub-word c = search rules
+pub returns-in-Call : goal.returns-in-Call
+unfolding act_of
+returns-in-Call c = rw (word_of c.args.rules.now c.args.variable (omega arith), ← c.in-Call.ensures)
 
-pub returns-then-kind-eq5 : goal.returns-then-kind-eq5
-unfolding act_of rule_for
-returns-then-kind-eq5 c =
-    let a = c.args in
-    rw (word_of a.rules.now a.variable (omega arith), c.if-kind-eq5.true)
+pub returns-in-Byte : goal.returns-in-Byte
+unfolding act_of
+returns-in-Byte c = rw (word_of c.args.rules.now c.args.variable (omega arith), ← c.in-Byte.ensures)
+    (c.one_byte.ensures
+    ∙ sees c.args.input.now c.args.position _ (get_or c.args.input.now c.args.position 0) (λ h. c.byte_at.ensures ∙ slice_get-get_or _ _ 0 h) (λ h. c.byte_at.ensures ∙ slice_get_past _ _ h))
 
-pub returns-then-kind-eq3 : goal.returns-then-kind-eq3
-unfolding act_of rule_for
-returns-then-kind-eq3 c =
-    let a = c.args in
-    rw (word_of a.rules.now a.variable (omega arith), c.if-kind-eq3.true) c.one_byte.ensures
+pub returns-in-Class : goal.returns-in-Class
+unfolding act_of
+returns-in-Class c = rw (word_of c.args.rules.now c.args.variable (omega arith), ← c.in-Class.ensures)
+    (c.one_byte-in-Class.ensures
+    ∙ sees c.args.input.now c.args.position _ (class_of (get_or c.args.input.now c.args.position 0)) (λ h. c.class_at.ensures ∙ ap (option_map class_of) (slice_get-get_or _ _ 0 h)) (λ h. c.class_at.ensures ∙ ap (option_map class_of) (slice_get_past _ _ h)))
 
-pub returns-then-kind-eq4 : goal.returns-then-kind-eq4
-unfolding act_of rule_for
-returns-then-kind-eq4 c =
-    let a = c.args in
-    rw (word_of a.rules.now a.variable (omega arith), c.if-kind-eq4.true) c.one_byte-then-kind-eq4.ensures
+pub returns-in-Always : goal.returns-in-Always
+unfolding act_of
+returns-in-Always c = rw (word_of c.args.rules.now c.args.variable (omega arith), ← c.in-Always.ensures)
 
-pub returns-then-kind-eq1 : goal.returns-then-kind-eq1
-unfolding act_of rule_for
-returns-then-kind-eq1 c =
-    let a = c.args in
-    rw (word_of a.rules.now a.variable (omega arith), c.if-kind-eq1.true)
+pub returns-in-Never : goal.returns-in-Never
+unfolding act_of
+returns-in-Never c = rw (word_of c.args.rules.now c.args.variable (omega arith), ← c.in-Never.ensures)
 
-pub returns-then-kind-ne2 : goal.returns-then-kind-ne2
-unfolding act_of rule_for
-returns-then-kind-ne2 c =
-    let a = c.args in
-    simp (
-      word_of a.rules.now a.variable (omega arith),
-      ne_eqb _ _ c.if-kind-eq5.false,
-      ne_eqb _ _ c.if-kind-eq3.false,
-      ne_eqb _ _ c.if-kind-eq4.false,
-      ne_eqb _ _ c.if-kind-eq1.false,
-      ne_eqb _ _ c.if-kind-ne2.true,
-    )
-
-pub returns : goal.returns
-unfolding act_of rule_for
-returns c =
-    let a = c.args in
-    rw (word_of a.rules.now a.variable (omega arith), c.if-kind-ne2.false)
+pub returns-in-Absent : goal.returns-in-Absent
+unfolding act_of
+returns-in-Absent c = rw (word_of c.args.rules.now c.args.variable (omega arith), ← c.in-Absent.ensures)
