@@ -1,19 +1,22 @@
 -- Five columns, read by their digits from the last on. Assumes nothing.
 use mathlib.Core.Path.{◌≡◌, refl, sym, ap, ◌∙◌}
-use mathlib.Core.Bool.{Bool, true, false, not, cond, ◌&&◌}
+use mathlib.Core.Bool.{Bool, true, false, cond, ◌&&◌}
 use mathlib.Core.List.{List, [], ◌∷◌, ◌++◌}
 use mathlib.Core.Logic.{◌≢◌}
 use mathlib.Core.Option.{Option, none, some}
-use Prim.Native.Nat.{ℕ, ◌+◌, ◌-◌, ◌*◌, ◌/◌, ◌%◌, ◌≤◌, ◌<◌}
+use Prim.Native.Nat.{ℕ, ◌+◌, ◌-◌, ◌*◌, ◌%◌, ◌≤◌, ◌<◌}
 use native.Mathlib.Decide.{ℕ_discrete}
 use native.Mathlib.Omega.{arith}
 use lib.Dec.{leb}
-use lib.ListN.{length, get_or}
-use lib.Seq.{slice, slice_empty}
-use borrow.Author.Tests.{eq-eqb, ne_eqb, le-leb, lt-leb, leb-true, leb-false}
+use lib.ListN.{length, get_or, take}
+use borrow.Author.Tests.{eq-eqb, ne_eqb, le-leb}
+use Rattle.std.proofs.Common.{Some, None}
+use Rattle.std.specs.Int.{from_le_bytes, w32}
 use Rattle.columns.specs.Column.{number, digits_after, zero_then}
-use Rattle.columns.specs.Scan.{five_of, Long}
-use Rattle.columns.proofs.Laws.{next_column}
+use Rattle.columns.specs.Scan.{digit_of, first_digit_of}
+use Rattle.columns.proofs.Laws.{untrue, shown, not_shown, digit_on}
+pub use Rattle.columns.proofs.Laws.{among_bounds}
+use Rattle.columns.proofs.Parts.{five_of_law}
 
 -- A digit, and a digit that may come first.
 abbrev digit : ℕ → Bool
@@ -22,45 +25,10 @@ digit b = leb 48 b && leb b 57
 abbrev lead : ℕ → Bool
 lead b = leb 49 b && leb b 57
 
--- What the tests say.
-untrue : {t : Bool} → t ≡ true → t ≡ false → ⊥
-untrue e h = let f = ap (λ (t : Bool). cond {A = ℕ} t 1 0) (sym e ∙ h) in omega arith
-
-not_true : (t : Bool) → not t ≡ true → t ≡ false
-not_true true h = absurd (untrue h refl)
-not_true false h = refl
-
-not_false : (t : Bool) → not t ≡ false → t ≡ true
-not_false true h = refl
-not_false false h = absurd (untrue refl h)
-
-pub fails : {t u : Bool} → t ≡ u → not t ≡ true → u ≡ false
-fails {t} {u} e h = sym e ∙ not_true t h
-
-pub passes : {t u : Bool} → t ≡ u → not t ≡ false → u ≡ true
-passes {t} {u} e h = sym e ∙ not_false t h
-
-both : (t u : Bool) → (t && u) ≡ true → (t ≡ true) × (u ≡ true)
-both true u h = (refl, h)
-both false u h = absurd (untrue h refl)
-
-pub among_bounds : (low high b : ℕ) → (leb low b && leb b high) ≡ true → (low ≤ b) × (b ≤ high)
-among_bounds low high b h =
-    let k = both (leb low b) (leb b high) h in
-    (leb-true low b k.0, leb-true b high k.1)
-
 among_not : (low high b : ℕ) → (leb low b && leb b high) ≡ false → low ≤ b → b ≤ high → ⊥
 among_not low high b h l k =
     let e : (leb low b && leb b high) ≡ true = rw (le-leb low b l, le-leb b high k) refl in
     untrue e h
-
--- Numbers of four and of five digits are small.
-pub four_small : (b c d e : ℕ) → b ≤ 57 → c ≤ 57 → d ≤ 57 → e ≤ 57 → 1000 * (b - 48) + (100 * (c - 48) + (10 * (d - 48) + (e - 48))) < 4294967296
-four_small b c d e h i j k = omega arith
-
-pub five_small : (a b c d e : ℕ) → a ≤ 57 → b ≤ 57 → c ≤ 57 → d ≤ 57 → e ≤ 57
-    → 10000 * (a - 48) + 1000 * (b - 48) + (100 * (c - 48) + (10 * (d - 48) + (e - 48))) < 4294967296
-five_small a b c d e g h i j k = omega arith
 
 -- ---- Column by column.
 
@@ -73,10 +41,6 @@ skip : (xs ys : List ℕ) → Blank xs → number (xs ++ ys) ≡ number ys
 unfolding number
 skip [] ys h = refl
 skip (x ∷ xs) ys h = rw (eq-eqb x 32 h.0) (skip xs ys h.1)
-
-digit_on : (v b : ℕ) (bs : List ℕ) → digit b ≡ true → digits_after v (b ∷ bs) ≡ digits_after (10 * v + (b - 48)) bs
-unfolding digits_after
-digit_on v b bs h = rw h refl
 
 all_on : (v : ℕ) → digits_after v [] ≡ some v
 unfolding digits_after
@@ -91,25 +55,28 @@ stray_on v (x ∷ xs) b ys h = go (digit x) (digits_after (10 * v + (x - 48)) (x
     go true o e = e
     go false o e = refl
 
-first_on : (b : ℕ) (bs : List ℕ) → lead b ≡ true → number (b ∷ bs) ≡ digits_after (b - 48) bs
-unfolding number
-first_on b bs h =
-    let k = among_bounds 49 57 b h in
+first_on : (b : ℕ) (bs : List ℕ) {x : ℕ} → Some x ≡ first_digit_of b → number (b ∷ bs) ≡ digits_after x bs
+unfolding number digits_after
+first_on b bs {x} p =
+    let s = shown p in
+    let k = among_bounds 49 57 b s.0 in
     let e : digit b ≡ true = rw (le-leb 48 b (omega arith), le-leb b 57 k.1) refl in
-    let z : 10 * 0 + (b - 48) ≡ b - 48 = omega arith in
-    rw (ne_eqb b 32 (λ q. omega arith), ne_eqb b 48 (λ q. omega arith)) (digit_on 0 b bs e ∙ ap (λ (v : ℕ). digits_after v bs) z)
+    let z : 10 * 0 + (b - 48) ≡ x = omega arith in
+    rw (ne_eqb b 32 (λ q. omega arith), ne_eqb b 48 (λ q. omega arith), e, z) refl
 
-one_on : (b : ℕ) → digit b ≡ true → number (b ∷ []) ≡ some (b - 48)
+one_on : (b : ℕ) {x : ℕ} → Some x ≡ digit_of b → number (b ∷ []) ≡ some x
 unfolding number
-one_on b h =
-    let k = among_bounds 48 57 b h in
+one_on b {x} p =
+    let s = shown p in
+    let k = among_bounds 48 57 b s.0 in
     elim (ℕ_discrete b 48) [
       | yes e ↦
-          let z : 0 ≡ b - 48 = omega arith in
+          let z : 0 ≡ x = omega arith in
           rw (ne_eqb b 32 (λ q. omega arith), eq-eqb b 48 e) (ap some z)
       | no d ↦
           let e : lead b ≡ true = rw (le-leb 49 b (omega arith), le-leb b 57 k.1) refl in
-          first_on b [] e ∙ all_on (b - 48)
+          let f : Some x ≡ first_digit_of b = rw (e, s.1) refl in
+          first_on b [] f ∙ all_on x
     ]
 
 none_left : number [] ≡ none
@@ -155,108 +122,106 @@ no_lead b c ys h n = elim (ℕ_discrete b 48) [
 
 -- ---- Five columns.
 
-module _ (left e : ℕ) where
+-- The columns s, the first four as the number left.
+pub record Five (s : List ℕ) (left : ℕ) : Type 0 where
+  pub is : number s ≡ number (get_or s 0 0 ∷ get_or s 1 0 ∷ get_or s 2 0 ∷ get_or s 3 0 ∷ get_or s 4 0 ∷ [])
+  pub sum : left ≡ get_or s 0 0 + 256 * get_or s 1 0 + 65536 * get_or s 2 0 + 16777216 * get_or s 3 0
+  pub first : get_or s 0 0 < 256
+  pub second : get_or s 1 0 < 256
+  pub third : get_or s 2 0 < 256
+  pub fourth : get_or s 3 0 < 256
+
+sum_of : (s : List ℕ) → length s ≡ 5 → from_le_bytes w32 (take 4 s) ≡ get_or s 0 0 + 256 * get_or s 1 0 + 65536 * get_or s 2 0 + 16777216 * get_or s 3 0
+sum_of s h = ap (λ l. from_le_bytes w32 (take 4 l)) (sym (five_of_law s h)) ∙ omega arith
+
+pub five : (s : List ℕ) (left : ℕ) → length s ≡ 5 → ((k : ℕ) → get_or s k 0 < 256) → left ≡ from_le_bytes w32 (take 4 s) → Five s left
+five s left n f e = record {
+  is = ap number (sym (five_of_law s n));
+  sum = e ∙ sum_of s n;
+  first = f 0;
+  second = f 1;
+  third = f 2;
+  fourth = f 3;
+}
+
+module _ {s : List ℕ} {left : ℕ} (h : Five s left) where
   abbrev a : ℕ
-  a = left % 256
+  a = get_or s 0 0
 
   abbrev b : ℕ
-  b = left / 256 % 256
+  b = get_or s 1 0
 
   abbrev c : ℕ
-  c = left / 65536 % 256
+  c = get_or s 2 0
 
   abbrev d : ℕ
-  d = left / 16777216
+  d = get_or s 3 0
 
-  pub last_fault : digit e ≡ false → none ≡ number (five_of left e)
-  last_fault h = sym (stray (a ∷ b ∷ c ∷ d ∷ []) e [] h (λ k. none_left))
+  abbrev e : ℕ
+  e = get_or s 4 0
 
-  pub one_digit : left ≡ 538976288 → digit e ≡ true → some (e - 48) ≡ number (five_of left e)
-  one_digit q h = sym (skip (a ∷ b ∷ c ∷ d ∷ []) (e ∷ []) (omega arith, (omega arith, (omega arith, (omega arith, tt)))) ∙ one_on e h)
+  pub last_fault : None ≡ digit_of e → none ≡ number s
+  last_fault p = sym (h.is ∙ stray (a ∷ b ∷ c ∷ d ∷ []) e [] (not_shown (digit e) (e - 48) p) (λ k. none_left))
 
-  module _ (not-four : left ≢ 538976288) where
-    pub two_fault : left % 16777216 ≡ 2105376 → lead d ≡ false → none ≡ number (five_of left e)
-    two_fault q h =
-        sym (skip (a ∷ b ∷ c ∷ []) (d ∷ e ∷ []) (omega arith, (omega arith, (omega arith, tt))) ∙ no_lead d e [] h (λ z. not-four (omega arith)))
+  pub one_digit : {w : ℕ} → left ≡ 538976288 → Some w ≡ digit_of e → some w ≡ number s
+  one_digit q p =
+      sym (h.is ∙ skip (a ∷ b ∷ c ∷ d ∷ []) (e ∷ []) (omega arith, (omega arith, (omega arith, (omega arith, tt)))) ∙ one_on e p)
 
-    pub two_digits : left % 16777216 ≡ 2105376 → lead d ≡ true → digit e ≡ true → some (10 * (d - 48) + (e - 48)) ≡ number (five_of left e)
-    two_digits q h k =
-        sym (skip (a ∷ b ∷ c ∷ []) (d ∷ e ∷ []) (omega arith, (omega arith, (omega arith, tt))) ∙ first_on d (e ∷ []) h ∙ digit_on (d - 48) e [] k
-        ∙ all_on (10 * (d - 48) + (e - 48)))
+  pub two_fault : left ≢ 538976288 → left % 16777216 ≡ 2105376 → None ≡ first_digit_of d → none ≡ number s
+  two_fault n q p =
+      sym (h.is ∙ skip (a ∷ b ∷ c ∷ []) (d ∷ e ∷ []) (omega arith, (omega arith, (omega arith, tt)))
+      ∙ no_lead d e [] (not_shown (lead d) (d - 48) p) (λ z. n (omega arith)))
 
-    pub fourth_fault : digit d ≡ false → none ≡ number (five_of left e)
-    fourth_fault h = sym (stray (a ∷ b ∷ c ∷ []) d (e ∷ []) h (λ k. let z₁ = k.0 in let z₂ = k.1.0 in let z₃ = k.1.1.0 in let z₄ = k.1.1.1.0 in absurd (not-four (omega arith))))
+  pub two_digits : {v w : ℕ} → left % 16777216 ≡ 2105376 → Some v ≡ first_digit_of d → Some w ≡ digit_of e → some (10 * v + w) ≡ number s
+  two_digits q k l =
+      sym (h.is ∙ skip (a ∷ b ∷ c ∷ []) (d ∷ e ∷ []) (omega arith, (omega arith, (omega arith, tt))) ∙ first_on d (e ∷ []) k ∙ digit_on _ e [] l ∙ all_on _)
 
-  module _ (not_three : left % 16777216 ≢ 2105376) where
-    pub three_fault : left % 65536 ≡ 8224 → lead c ≡ false → none ≡ number (five_of left e)
-    three_fault q h = sym (skip (a ∷ b ∷ []) (c ∷ d ∷ e ∷ []) (omega arith, (omega arith, tt)) ∙ no_lead c d (e ∷ []) h (λ z. not_three (omega arith)))
+  pub fourth_fault : left ≢ 538976288 → None ≡ digit_of d → none ≡ number s
+  fourth_fault n p =
+      sym (h.is ∙ stray (a ∷ b ∷ c ∷ []) d (e ∷ []) (not_shown (digit d) (d - 48) p)
+      (λ k. let z₁ = k.0 in let z₂ = k.1.0 in let z₃ = k.1.1.0 in let z₄ = k.1.1.1.0 in absurd (n (omega arith))))
 
-    pub three_digits : left % 65536 ≡ 8224 → lead c ≡ true → digit d ≡ true → digit e ≡ true
-        → some (100 * (c - 48) + (10 * (d - 48) + (e - 48))) ≡ number (five_of left e)
-    three_digits q h k l =
-        let z : 100 * (c - 48) + (10 * (d - 48) + (e - 48)) ≡ 10 * (10 * (c - 48) + (d - 48)) + (e - 48) = omega arith in
-        ap some z
-        ∙ sym (skip (a ∷ b ∷ []) (c ∷ d ∷ e ∷ []) (omega arith, (omega arith, tt)) ∙ first_on c (d ∷ e ∷ []) h ∙ digit_on (c - 48) d (e ∷ []) k
-        ∙ digit_on (10 * (c - 48) + (d - 48)) e [] l ∙ all_on (10 * (10 * (c - 48) + (d - 48)) + (e - 48)))
+  pub three_fault : left % 16777216 ≢ 2105376 → left % 65536 ≡ 8224 → None ≡ first_digit_of c → none ≡ number s
+  three_fault n q p =
+      sym (h.is ∙ skip (a ∷ b ∷ []) (c ∷ d ∷ e ∷ []) (omega arith, (omega arith, tt))
+      ∙ no_lead c d (e ∷ []) (not_shown (lead c) (c - 48) p) (λ z. n (omega arith)))
 
-    pub third_fault : digit c ≡ false → none ≡ number (five_of left e)
-    third_fault h = sym (stray (a ∷ b ∷ []) c (d ∷ e ∷ []) h (λ k. let z₁ = k.0 in let z₂ = k.1.0 in let z₃ = k.1.1.0 in absurd (not_three (omega arith))))
-
-  module _ (not-two : left % 65536 ≢ 8224) where
-    pub four_fault : left % 256 ≡ 32 → lead b ≡ false → none ≡ number (five_of left e)
-    four_fault q h = sym (skip (a ∷ []) (b ∷ c ∷ d ∷ e ∷ []) (q, tt) ∙ no_lead b c (d ∷ e ∷ []) h (λ z. not-two (omega arith)))
-
-    pub four_digits : left % 256 ≡ 32 → lead b ≡ true → digit c ≡ true → digit d ≡ true → digit e ≡ true
-        → some (1000 * (b - 48) + (100 * (c - 48) + (10 * (d - 48) + (e - 48)))) ≡ number (five_of left e)
-    four_digits q h j k l =
-        let z : 1000 * (b - 48) + (100 * (c - 48) + (10 * (d - 48) + (e - 48))) ≡ 10 * (10 * (10 * (b - 48) + (c - 48)) + (d - 48)) + (e - 48) = omega arith in
-        ap some z
-        ∙ sym (skip (a ∷ []) (b ∷ c ∷ d ∷ e ∷ []) (q, tt) ∙ first_on b (c ∷ d ∷ e ∷ []) h ∙ digit_on (b - 48) c (d ∷ e ∷ []) j
-        ∙ digit_on (10 * (b - 48) + (c - 48)) d (e ∷ []) k ∙ digit_on (10 * (10 * (b - 48) + (c - 48)) + (d - 48)) e [] l
-        ∙ all_on (10 * (10 * (10 * (b - 48) + (c - 48)) + (d - 48)) + (e - 48)))
-
-    pub second_fault : digit b ≡ false → none ≡ number (five_of left e)
-    second_fault h = sym (stray (a ∷ []) b (c ∷ d ∷ e ∷ []) h (λ k. let z₁ = k.0 in let z₂ = k.1.0 in absurd (not-two (omega arith))))
-
-  pub five_fault : left % 256 ≢ 32 → lead a ≡ false → none ≡ number (five_of left e)
-  five_fault n h = sym (no_lead a b (c ∷ d ∷ e ∷ []) h n)
-
-  pub five_digits : lead a ≡ true → digit b ≡ true → digit c ≡ true → digit d ≡ true → digit e ≡ true
-      → some (10000 * (a - 48) + 1000 * (b - 48) + (100 * (c - 48) + (10 * (d - 48) + (e - 48)))) ≡ number (five_of left e)
-  five_digits h i j k l =
-      let z : 10000 * (a - 48) + 1000 * (b - 48) + (100 * (c - 48) + (10 * (d - 48) + (e - 48))) ≡ 10 * (10 * (10 * (10 * (a - 48) + (b - 48)) + (c - 48)) + (d - 48)) + (e - 48) = omega arith in
+  pub three_digits : {u v w : ℕ} → left % 65536 ≡ 8224 → Some u ≡ first_digit_of c → Some v ≡ digit_of d → Some w ≡ digit_of e
+      → some (100 * u + (10 * v + w)) ≡ number s
+  three_digits {u} {v} {w} q i j k =
+      let z : 100 * u + (10 * v + w) ≡ 10 * (10 * u + v) + w = omega arith in
       ap some z
-      ∙ sym (first_on a (b ∷ c ∷ d ∷ e ∷ []) h ∙ digit_on (a - 48) b (c ∷ d ∷ e ∷ []) i ∙ digit_on (10 * (a - 48) + (b - 48)) c (d ∷ e ∷ []) j
-      ∙ digit_on (10 * (10 * (a - 48) + (b - 48)) + (c - 48)) d (e ∷ []) k ∙ digit_on (10 * (10 * (10 * (a - 48) + (b - 48)) + (c - 48)) + (d - 48)) e [] l
-      ∙ all_on (10 * (10 * (10 * (10 * (a - 48) + (b - 48)) + (c - 48)) + (d - 48)) + (e - 48)))
+      ∙ sym (h.is ∙ skip (a ∷ b ∷ []) (c ∷ d ∷ e ∷ []) (omega arith, (omega arith, tt)) ∙ first_on c (d ∷ e ∷ []) i ∙ digit_on _ d (e ∷ []) j
+      ∙ digit_on _ e [] k ∙ all_on _)
 
--- The numbers of the last three columns, where these are digits.
-pub record LongBounds (left e : ℕ) : Type 0 where
-  pub third_least : 48 ≤ left / 65536 % 256
-  pub third_most : left / 65536 % 256 ≤ 57
-  pub fourth_least : 48 ≤ left / 16777216
-  pub fourth_most : left / 16777216 ≤ 57
-  pub last_least : 48 ≤ e
-  pub last_most : e ≤ 57
+  pub third_fault : left % 16777216 ≢ 2105376 → None ≡ digit_of c → none ≡ number s
+  third_fault n p =
+      sym (h.is ∙ stray (a ∷ b ∷ []) c (d ∷ e ∷ []) (not_shown (digit c) (c - 48) p)
+      (λ k. let z₁ = k.0 in let z₂ = k.1.0 in let z₃ = k.1.1.0 in absurd (n (omega arith))))
 
-pub long_bounds : {left e : ℕ} → Long left e → LongBounds left e
-long_bounds {left} {e} l =
-    let c = among_bounds 48 57 (left / 65536 % 256) l.third in
-    let d = among_bounds 48 57 (left / 16777216) l.fourth in
-    let z = among_bounds 48 57 e l.last in
-    record { third_least = c.0; third_most = c.1; fourth_least = d.0; fourth_most = d.1; last_least = z.0; last_most = z.1 }
+  pub four_fault : left % 65536 ≢ 8224 → a ≡ 32 → None ≡ first_digit_of b → none ≡ number s
+  four_fault n q p =
+      sym (h.is ∙ skip (a ∷ []) (b ∷ c ∷ d ∷ e ∷ []) (q, tt) ∙ no_lead b c (d ∷ e ∷ []) (not_shown (lead b) (b - 48) p) (λ z. n (omega arith)))
 
--- The columns of a slice.
-next : (s : List ℕ) (i j end : ℕ) → i + 1 ≡ j → i < end → end ≤ length s → slice i end s ≡ get_or s i 0 ∷ slice j end s
-next s i j end e h l = next_column s i end h l ∙ ap (λ (k : ℕ). get_or s i 0 ∷ slice k end s) e
+  pub four_digits : {t u v w : ℕ} → a ≡ 32 → Some t ≡ first_digit_of b → Some u ≡ digit_of c → Some v ≡ digit_of d → Some w ≡ digit_of e
+      → some (1000 * t + (100 * u + (10 * v + w))) ≡ number s
+  four_digits {t} {u} {v} {w} q g i j k =
+      let z : 1000 * t + (100 * u + (10 * v + w)) ≡ 10 * (10 * (10 * t + u) + v) + w = omega arith in
+      ap some z
+      ∙ sym (h.is ∙ skip (a ∷ []) (b ∷ c ∷ d ∷ e ∷ []) (q, tt) ∙ first_on b (c ∷ d ∷ e ∷ []) g ∙ digit_on _ c (d ∷ e ∷ []) i
+      ∙ digit_on _ d (e ∷ []) j ∙ digit_on _ e [] k ∙ all_on _)
 
-pub five_slice : (s : List ℕ) (at left e : ℕ) → at + 5 ≤ length s → left % 256 ≡ get_or s at 0 → left / 256 % 256 ≡ get_or s (at + 1) 0
-    → left / 65536 % 256 ≡ get_or s (at + 2) 0 → left / 16777216 ≡ get_or s (at + 3) 0 → e ≡ get_or s (at + 4) 0 → slice at (at + 5) s ≡ five_of left e
-five_slice s at left e l q₁ q₂ q₃ q₄ q₅ =
-    next_column s at (at + 5) (omega arith) l
-    ∙ ap (λ (xs : List ℕ). get_or s at 0 ∷ xs) (next s (at + 1) (at + 2) (at + 5) (omega arith) (omega arith) l
-    ∙ ap (λ (xs : List ℕ). get_or s (at + 1) 0 ∷ xs) (next s (at + 2) (at + 3) (at + 5) (omega arith) (omega arith) l
-    ∙ ap (λ (xs : List ℕ). get_or s (at + 2) 0 ∷ xs) (next s (at + 3) (at + 4) (at + 5) (omega arith) (omega arith) l
-    ∙ ap (λ (xs : List ℕ). get_or s (at + 3) 0 ∷ xs) (next s (at + 4) (at + 5) (at + 5) (omega arith) (omega arith) l
-    ∙ ap (λ (xs : List ℕ). get_or s (at + 4) 0 ∷ xs) (slice_empty (at + 5) s)))))
-    ∙ rw (q₁, q₂, q₃, q₄, q₅) refl
+  pub second_fault : left % 65536 ≢ 8224 → None ≡ digit_of b → none ≡ number s
+  second_fault n p =
+      sym (h.is ∙ stray (a ∷ []) b (c ∷ d ∷ e ∷ []) (not_shown (digit b) (b - 48) p) (λ k. let z₁ = k.0 in let z₂ = k.1.0 in absurd (n (omega arith))))
+
+  pub five_fault : a ≢ 32 → None ≡ first_digit_of a → none ≡ number s
+  five_fault n p = sym (h.is ∙ no_lead a b (c ∷ d ∷ e ∷ []) (not_shown (lead a) (a - 48) p) n)
+
+  pub five_digits : {r t u v w : ℕ} → Some r ≡ first_digit_of a → Some t ≡ digit_of b → Some u ≡ digit_of c → Some v ≡ digit_of d → Some w ≡ digit_of e
+      → some (10000 * r + 1000 * t + (100 * u + (10 * v + w))) ≡ number s
+  five_digits {r} {t} {u} {v} {w} f g i j k =
+      let z : 10000 * r + 1000 * t + (100 * u + (10 * v + w)) ≡ 10 * (10 * (10 * (10 * r + t) + u) + v) + w = omega arith in
+      ap some z
+      ∙ sym (h.is ∙ first_on a (b ∷ c ∷ d ∷ e ∷ []) f ∙ digit_on _ b (c ∷ d ∷ e ∷ []) g ∙ digit_on _ c (d ∷ e ∷ []) i ∙ digit_on _ d (e ∷ []) j
+      ∙ digit_on _ e [] k ∙ all_on _)

@@ -3,5 +3,4 @@ pub mod Laws
 pub mod Five
 pub mod RoundTrip
 pub mod Rows
-pub mod Fields
 pub mod Parts

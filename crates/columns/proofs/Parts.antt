@@ -2,17 +2,16 @@
 use mathlib.Core.Path.{◌≡◌, refl, sym, ap, ◌∙◌}
 use mathlib.Core.Bool.{Bool, cond}
 use mathlib.Core.List.{List, [], ◌∷◌, ◌++◌}
-use mathlib.Core.Option.{Option, none, some}
-use Prim.Native.Nat.{ℕ, zero, suc, ◌+◌, ◌-◌, ◌≤◌, ◌<◌}
+use mathlib.Core.Logic.{◌⊎◌, inl, inr}
+use mathlib.Core.Option.{Option, none, some, map, some-injective}
+use Prim.Native.Nat.{ℕ, zero, suc, ◌+◌, ◌-◌, ◌*◌, ◌≤◌, ◌<◌}
 use native.Mathlib.Omega.{arith}
-use lib.ListN.{length, take, drop, get_or, set, length-set}
+use lib.ListN.{length, take, drop, get_or, set, length-set, length-drop}
 use lib.Seq.{slice, length-slice, take-take, take-nil, drop-nil, take-suc-set, take_all}
+use native.Mathlib.Nat.{zero-mul, suc-mul}
 use borrow.Author.Tests.{le-leb, lt-leb}
-use Rattle.columns.specs.Column.{field, fields, number, cons_to, reads, told}
+use Rattle.columns.specs.Column.{field, fields, number, cons_to, reads}
 use Rattle.columns.specs.declared.Cursor.{Cursor}
-use Rattle.columns.specs.declared.Field.{Field}
-use Rattle.columns.specs.declared.Field.TheVariants.{Number, Fault}
-use Rattle.columns.proofs.Fields.{number_found, fault_found, row_fault, row_more}
 
 -- Numbers before what is still to be read.
 unfoldable pub before : List ℕ → Option (List ℕ) → Option (List ℕ)
@@ -34,6 +33,23 @@ unfolding before
 before_more [] x rest = refl
 before_more (y ∷ xs) x rest = ap (cons_to (some y)) (before_more xs x rest)
 
+-- What the cursor answers: the number of a field and the position behind it, or that it holds none.
+found : (w : ℕ) (s : List ℕ) (at x next : ℕ) → ◌≡◌ {A = Option (ℕ × ℕ)} (some (x, next)) (reads w s at) → (field w s at ≡ some x) × (next ≡ at + w)
+found w s at x next e = go (field w s at) e
+  where
+    go : (o : Option ℕ) → ◌≡◌ {A = Option (ℕ × ℕ)} (some (x, next)) (map (λ y. (y, at + w)) o) → (o ≡ some x) × (next ≡ at + w)
+    go none f = cc
+    go (some y) f =
+        let u : ◌≡◌ {A = ℕ × ℕ} (x, next) (y, at + w) = some-injective {A = ℕ × ℕ} (x, next) (y, at + w) f in
+        (ap some (sym (ap (λ (v : ℕ × ℕ). v.0) u)), ap (λ (v : ℕ × ℕ). v.1) u)
+
+not_found : (w : ℕ) (s : List ℕ) (at : ℕ) → none ≡ reads w s at → field w s at ≡ none
+not_found w s at e = go (field w s at) e
+  where
+    go : (o : Option ℕ) → none ≡ map {B = ℕ × ℕ} (λ y. (y, at + w)) o → o ≡ none
+    go none f = refl
+    go (some y) f = cc
+
 -- k of all fields are read: they stand at the beginning of numbers, and the rest is to be read from the cursor on.
 pub record Reading (w all : ℕ) (s numbers : List ℕ) (here : Cursor) (k : ℕ) : Type 0 where
   pub room : length numbers ≡ all
@@ -47,27 +63,33 @@ module _ (w all : ℕ) (s : List ℕ) where
 
   module _ {numbers : List ℕ} {here : Cursor} {k : ℕ} (r : Reading w all s numbers here k) where
     -- The next field is no number,
-    pub stops : {answer : Field} → k < all → told answer ≡ reads w s here.at → answer ≡ Fault → fields all w s 0 ≡ none
-    stops l says e =
+    pub stops : k < all → none ≡ reads w s here.at → fields all w s 0 ≡ none
+    unfolding fields
+    stops l says =
         let n : all - k ≡ suc (all - k - 1) = omega arith in
-        r.rest ∙ ap (before (take k numbers)) (ap (λ (m : ℕ). fields m w s here.at) n ∙ (row_fault w s (all - k - 1) (fault_found w s here.at says e)).row)
+        r.rest
+        ∙ ap (before (take k numbers)) (ap (λ (m : ℕ). fields m w s here.at) n
+        ∙ ap (λ (o : Option ℕ). cons_to o (fields (all - k - 1) w s (here.at + w))) (not_found w s here.at says))
         ∙ before_none (take k numbers)
 
     -- or one, with the cursor at the next.
-    pub reads_on : {answer : Field} {x : ℕ} {next : Cursor} → k < all → told answer ≡ reads w s here.at → answer ≡ Number x next
-        → Reading w all s (set numbers k x) next (k + 1)
-    reads_on {answer} {x} {next} l says e =
+    pub reads_on : {x : ℕ} {next : Cursor} → k < all → ◌≡◌ {A = Option (ℕ × ℕ)} (some (x, next.at)) (reads w s here.at) → Reading w all s (set numbers k x) next (k + 1)
+    unfolding fields
+    reads_on {x} {next} l says =
         let n : all - k ≡ suc (all - (k + 1)) = omega arith in
         let m = r.room in
         let i : k < length numbers = omega arith in
         let one : k + 1 ≡ suc k = omega arith in
         let left = fields (all - (k + 1)) w s next.at in
+        let f = found w s here.at x next.at says in
         record {
           room = length-set numbers k x ∙ m;
           so_far = omega arith;
           rest =
               r.rest
-              ∙ ap (before (take k numbers)) (ap (λ (j : ℕ). fields j w s here.at) n ∙ (row_more w s (number_found w s here.at says e) (record { row = refl })).row)
+              ∙ ap (before (take k numbers)) (ap (λ (j : ℕ). fields j w s here.at) n
+              ∙ ap (λ (o : Option ℕ). cons_to o (fields (all - (k + 1)) w s (here.at + w))) f.0
+              ∙ ap (λ (j : ℕ). cons_to (some x) (fields (all - (k + 1)) w s j)) (sym f.1))
               ∙ before_more (take k numbers) x left
               ∙ ap (λ (xs : List ℕ). before xs left) (sym (ap (λ (j : ℕ). take j (set numbers k x)) one ∙ take-suc-set numbers k x i));
         }
@@ -132,13 +154,35 @@ module _ (w : ℕ) (s : List ℕ) (a b : ℕ) (inside : b ≤ length s) where
       ap (λ (o : Option ℕ). cons_to o (fields k w (slice a b s) (i + w))) (field_of_part i (omega arith))
       ∙ ap (cons_to (field w s (a + i))) (fields_of_part k (i + w) (omega arith) ∙ ap (fields k w s) e)
 
--- The fields of the part of k fields from a position, as a program lends it.
-pub fields_within : (w : ℕ) (s : List ℕ) (k at : ℕ) → at + width w k ≤ length s → fields k w (take (at + width w k - at) (drop at s)) 0 ≡ fields k w s at
-fields_within w s k at l =
-    let n : at + width w k - at ≡ width w k = omega arith in
+-- The part of n columns from a position.
+pub record Part (s part : List ℕ) (at n : ℕ) : Type 0 where
+  pub inside : at + n ≤ length s
+  pub is : part ≡ slice at (at + n) s
+
+-- As a program lends it: so many of all that is left from there.
+pub part_lent : (s rest part : List ℕ) (at n : ℕ) → at ≤ length s → rest ≡ take (length s - at) (drop at s) → n ≤ length rest
+    → part ≡ take (n - 0) (drop 0 rest) → Part s part at n
+part_lent s rest part at n l e k f =
+    let d = length-drop at s in
+    let t : rest ≡ drop at s = e ∙ take_all (length s - at) (drop at s) (omega arith) in
+    let m : length rest ≡ length s - at = ap length t ∙ d in
+    let z : n - 0 ≡ n = omega arith in
+    record { inside = omega arith; is = f ∙ rw z (ap (take n) t ∙ part_is at n s) }
+
+pub width_is : (w k : ℕ) → width w k ≡ k * w
+unfolding width
+width_is w zero = sym (zero-mul w)
+width_is w (suc k) = rw (suc-mul k w, width_is w k) (omega arith)
+
+pub line_lent : (s rest line : List ℕ) (at w k : ℕ) → at ≤ length s → rest ≡ take (length s - at) (drop at s) → k * w ≤ length rest
+    → line ≡ take (k * w - 0) (drop 0 rest) → Part s line at (width w k)
+line_lent s rest line at w k l e m f = rw (width_is w k) (part_lent s rest line at (k * w) l e m f)
+
+-- Its fields are those from the position on.
+pub fields_within : (w : ℕ) (s part : List ℕ) (k at : ℕ) → Part s part at (width w k) → fields k w part 0 ≡ fields k w s at
+fields_within w s part k at p =
     let z : at + 0 ≡ at = omega arith in
-    ap (λ (part : List ℕ). fields k w part 0) (ap (λ (m : ℕ). take m (drop at s)) n ∙ part_is at (width w k) s)
-    ∙ fields_of_part w s at (at + width w k) l k 0 (omega arith) ∙ ap (fields k w s) z
+    ap (λ (part : List ℕ). fields k w part 0) p.is ∙ fields_of_part w s at (at + width w k) p.inside k 0 (omega arith) ∙ ap (fields k w s) z
 
 -- ---- Fields that end beyond the bytes.
 
@@ -147,7 +191,21 @@ cons_to_none none = refl
 cons_to_none (some x) = refl
 
 -- They are none.
-pub fields_short : (w : ℕ) (s : List ℕ) (k at : ℕ) → length s < at + width w (suc k) → fields (suc k) w s at ≡ none
+pub fields_short : (w : ℕ) (s : List ℕ) (k at : ℕ) → 1 ≤ k → length s < at + width w k → fields k w s at ≡ none
 unfolding fields field width
-fields_short w s zero at l = ap (λ (t : Bool). cons_to (cond t (number (slice at (at + w) s)) none) (some [])) (lt-leb (at + w) (length s) (omega arith))
-fields_short w s (suc k) at l = ap (cons_to (field w s at)) (fields_short w s k (at + w) (omega arith)) ∙ cons_to_none (field w s at)
+fields_short w s zero at h l = absurd (omega arith)
+fields_short w s (suc zero) at h l = ap (λ (t : Bool). cons_to (cond t (number (slice at (at + w) s)) none) (some [])) (lt-leb (at + w) (length s) (omega arith))
+fields_short w s (suc (suc k)) at h l = ap (cons_to (field w s at)) (fields_short w s (suc k) (at + w) (omega arith) (omega arith)) ∙ cons_to_none (field w s at)
+
+-- ---- The bytes end before the part does, as a program finds.
+
+pub ends_before : (s : List ℕ) (at n : ℕ) → (length s < at) ⊎ (length s < length s) → length s < at + n
+ends_before s at n (inl h) = omega arith
+ends_before s at n (inr h) = absurd (omega arith)
+
+pub ends_within : (s rest : List ℕ) (at n : ℕ) → at ≤ length s → rest ≡ take (length s - at) (drop at s) → (n < 0) ⊎ (length rest < n) → length s < at + n
+ends_within s rest at n l e (inl h) = absurd (omega arith)
+ends_within s rest at n l e (inr h) =
+    let d = length-drop at s in
+    let m : length rest ≡ length s - at = ap length (e ∙ take_all (length s - at) (drop at s) (omega arith)) ∙ d in
+    omega arith

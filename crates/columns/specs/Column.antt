@@ -1,9 +1,9 @@
 -- Document 01, "The rule sheet": numbers in fixed columns, one definition for every width. Assumes nothing.
+use Rattle.std.specs.Prelude as Prelude
 use Rattle.std.specs.Prelude.{cond, ◌&&◌, List, [], ◌∷◌, ◌++◌, ℕ, zero, suc, ◌+◌, ◌-◌, ◌*◌, ◌/◌, ◌%◌, leb, eqb, length}
 use Rattle.std.proofs.Math.Option.{Option, none, some, map}
 use Rattle.std.proofs.Math.Seq.{slice}
-use Rattle.columns.specs.declared.Field.{Field}
-use Rattle.columns.specs.declared.Field.TheVariants.{Number, Fault}
+use Rattle.columns.specs.declared.Cursor.{Cursor}
 
 -- ---- What a field looks like: "right-justified in fixed columns: blanks (byte 32), then digits, no leading zero, zero written `0`".
 
@@ -59,6 +59,6 @@ abbrev pub reads : ℕ → List ℕ → ℕ → Option (ℕ × ℕ)
 reads w s at = map (λ x. (x, at + w)) (field w s at)
 
 -- What each case of the answer says.
-abbrev pub told : Field → Option (ℕ × ℕ)
-told (Number x next) = some (x, next.at)
-told Fault = none
+abbrev pub told : Prelude.Option (ℕ × Cursor) → Option (ℕ × ℕ)
+told (Prelude.Some (x, next)) = some (x, next.at)
+told Prelude.None = none

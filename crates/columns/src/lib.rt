@@ -1,10 +1,11 @@
 // Decimal numbers in fixed columns, read by a cursor that goes by value.
 #![tactic(auto)]
 
-ghost use Rattle.std.specs.Prelude.{◌≡◌, ◌+◌, ◌*◌, ◌-◌, ◌/◌, ◌%◌, ◌≤◌, ◌<◌, ◌&&◌, leb, length, get_or};
-ghost use Rattle.std.proofs.Math.Seq.{slice};
-ghost use Rattle.columns.specs.Column.{digits_after, number, reads, told};
-ghost use Rattle.columns.specs.Scan.{Skipped, held, five_of, Long};
+ghost use Rattle.std.specs.Prelude.{not, ◌==◌, ◌≡◌, ◌*◌, ◌^◌, ◌≤◌, ◌<◌, length, take};
+ghost use Rattle.std.specs.List.{position};
+ghost use Rattle.std.specs.Int.{from_le_bytes, w32};
+ghost use Rattle.columns.specs.Column.{digits_after, fields, number, reads, told};
+ghost use Rattle.columns.specs.Scan.{held, digit_of, first_digit_of};
 
 // The position of a column, counted from 0.
 #[derive(Drop)]
@@ -12,207 +13,124 @@ pub struct Cursor {
     pub at: usize,
 }
 
-// What reading a field finds: its number with the cursor behind it, or that it holds none.
-#[derive(Drop)]
-pub enum Field {
-    Number(u32, Cursor),
-    Fault,
-}
-
-// The number of some digits, or that they are not all digits.
-#[derive(Drop)]
-enum Digits {
-    Value(u32),
-    Fault,
-}
-
-// The first column from at to end that is no blank, or end.
-fn skip_blanks(s: &[u8], at: usize, end: usize) -> usize
-    requires { (at ≤ end) × (end ≤ length s.now) }
-    ensures { Skipped s.now at end result }
+// The digit that a byte shows.
+fn digit(b: u8) -> Option<u32>
+    ensures { result ≡ digit_of b }
 {
-    let mut i = at;
-    while i < end {
-        if s[i] != 32 {
-            return i;
-        }
-        i += 1;
+    match b {
+        b'0'..=b'9' => Some(u32::from(b - b'0')),
+        _ => None,
     }
-    i
 }
 
-// A digit after the number v.
-fn with_digit(v: u32, b: u8) -> u32
-    requires { (v < 10000000) × (48 ≤ b) × (b ≤ 57) }
-    ensures { result ≡ 10 * v + (b - 48) }
+// The digit of a byte that may come first.
+fn first_digit(b: u8) -> Option<u32>
+    ensures { result ≡ first_digit_of b }
 {
-    10 * v + (b as u32 - 48)
+    match b {
+        b'1'..=b'9' => Some(u32::from(b - b'0')),
+        _ => None,
+    }
 }
 
-// The number of the digits from at to end.
-fn read_digits(s: &[u8], at: usize, end: usize) -> Digits
-    requires { (at ≤ end) × (end ≤ at + 8) × (end ≤ length s.now) }
-    ensures { held result ≡ digits_after 0 (slice at end s.now) }
+// The number of these digits.
+fn read_digits(digits: &[u8]) -> Option<u32>
+    requires { length digits.now ≤ 8 }
+    ensures { held result ≡ digits_after 0 digits.now }
 {
     let mut v: u32 = 0;
-    let mut i = at;
-    while i < end {
-        let b = s[i];
-        if b < 48 {
-            return Digits::Fault;
-        }
-        if 57 < b {
-            return Digits::Fault;
-        }
-        v = with_digit(v, b);
-        i += 1;
+    for b in digits {
+        v = 10 * v + digit(*b)?;
     }
-    Digits::Value(v)
+    Some(v)
 }
 
-// Is x among low to high?
-fn among(low: u32, high: u32, x: u32) -> bool
-    ensures { result ≡ (leb low x && leb x high) }
+// Where the first column stands that is no blank.
+fn begin(columns: &[u8]) -> Option<usize>
+    ensures { result ≡ position (λ b. not (b == 32)) columns.now }
 {
-    if x < low {
-        return false;
-    }
-    x <= high
+    columns.iter().position(|b| *b != b' ')
 }
 
-// A byte as a number of four bytes.
-fn wide(b: u8) -> u32
-    ensures { (result ≡ b) × (result ≤ 255) }
+// The number in these columns: blanks, and the digits behind them.
+fn read_columns(columns: &[u8]) -> Option<u32>
+    requires { length columns.now ≤ 8 }
+    ensures { held result ≡ number columns.now }
 {
-    b as u32
+    let digits = &columns[begin(columns)?..];
+    if digits[0] == b'0' {
+        return (digits.len() == 1).then_some(0);
+    }
+    read_digits(digits)
 }
 
-// Four columns as one number, the first lowest, so that blanks are found with one comparison. (It takes the slice and not four bytes: then the
-// compiler loads them at once.)
-fn four(s: &[u8], at: usize) -> u32
-    requires { at + 4 ≤ length s.now }
-    ensures { (result % 256 ≡ get_or s.now at 0) × (result / 256 % 256 ≡ get_or s.now (at + 1) 0) × (result / 65536 % 256 ≡ get_or s.now (at + 2) 0) × (result / 16777216 ≡ get_or s.now (at + 3) 0) }
+// The first four of five columns as one number, the first lowest. (It is a function of its own: then the compiler loads the four at once.)
+fn first_four(columns: &[u8; 5]) -> u32
+    ensures { result ≡ from_le_bytes w32 (take 4 columns.now) }
 {
-    let a = wide(s[at]);
-    let b = wide(s[at + 1]);
-    let c = wide(s[at + 2]);
-    let d = wide(s[at + 3]);
-    a + 256 * b + 65536 * c + 16777216 * d
+    let [a, b, c, d, _] = *columns;
+    u32::from_le_bytes([a, b, c, d])
 }
 
-// The number in five columns, of which the last three are digits and the first two not both blank.
-fn long_columns(left: u32, e: u32) -> Digits
-    requires { Long left e }
-    ensures { held result ≡ number (five_of left e) }
+// The number in five columns: by digits from the last on, until all that is left is blank. Blanks are found with one comparison.
+fn five_columns(columns: &[u8; 5]) -> Option<u32>
+    ensures { held result ≡ number columns.now }
 {
-    let d = left / 16777216;
-    let c = left / 65536 % 256;
-    let hundreds = 100 * (c - 48) + (10 * (d - 48) + (e - 48));
-    let b = left / 256 % 256;
-    let a = left % 256;
-    if a == 32 {
-        if !among(49, 57, b) {
-            return Digits::Fault;
-        }
-        return Digits::Value(1000 * (b - 48) + hundreds);
+    let [a, b, c, d, e] = *columns;
+    let left = first_four(columns);
+    let ones = digit(e)?;
+    if left == 0x2020_2020 {
+        return Some(ones);
     }
-    if !among(48, 57, b) {
-        return Digits::Fault;
+    if left % 0x100_0000 == 0x20_2020 {
+        return Some(10 * first_digit(d)? + ones);
     }
-    if !among(49, 57, a) {
-        return Digits::Fault;
+    let tens = 10 * digit(d)? + ones;
+    if left % 0x1_0000 == 0x2020 {
+        return Some(100 * first_digit(c)? + tens);
     }
-    Digits::Value(10000 * (a - 48) + 1000 * (b - 48) + hundreds)
+    let hundreds = 100 * digit(c)? + tens;
+    if a == b' ' {
+        return Some(1000 * first_digit(b)? + hundreds);
+    }
+    Some(10000 * first_digit(a)? + 1000 * digit(b)? + hundreds)
 }
 
-// The number in five columns, four of them as one number: by digits from the last on, until all that is left is blank.
-fn five_columns(left: u32, e: u32) -> Digits
-    ensures { held result ≡ number (five_of left e) }
+// The number in these columns, of which five go a faster way.
+fn read(columns: &[u8]) -> Option<u32>
+    requires { length columns.now ≤ 8 }
+    ensures { held result ≡ number columns.now }
 {
-    if !among(48, 57, e) {
-        return Digits::Fault;
+    match columns.as_array() {
+        Some(five) => five_columns(five),
+        None => read_columns(columns),
     }
-    let ones = e - 48;
-    if left == 538976288 {
-        return Digits::Value(ones);
-    }
-    let d = left / 16777216;
-    if left % 16777216 == 2105376 {
-        if !among(49, 57, d) {
-            return Digits::Fault;
-        }
-        return Digits::Value(10 * (d - 48) + ones);
-    }
-    if !among(48, 57, d) {
-        return Digits::Fault;
-    }
-    let tens = 10 * (d - 48) + ones;
-    let c = left / 65536 % 256;
-    if left % 65536 == 8224 {
-        if !among(49, 57, c) {
-            return Digits::Fault;
-        }
-        return Digits::Value(100 * (c - 48) + tens);
-    }
-    if !among(48, 57, c) {
-        return Digits::Fault;
-    }
-    long_columns(left, e)
 }
 
 impl Cursor {
-    // The field of w columns here.
-    fn read(self, s: &[u8], w: usize) -> Field
-        requires { w ≤ 8 }
-        ensures { told result ≡ reads w s.now self.at }
+    // The number of the field of W columns here, with the cursor behind it.
+    pub fn field<const W: usize>(self, s: &[u8]) -> Option<(u32, Cursor)>
+        requires { W ≤ 8 }
+        ensures { told result ≡ reads W s.now self.at }
     {
-        let at = self.at;
-        if s.len() < w {
-            return Field::Fault;
-        }
-        if s.len() - w < at {
-            return Field::Fault;
-        }
-        let end = at + w;
-        let next = Cursor { at: end };
-        let first = skip_blanks(s, at, end);
-        if first == end {
-            return Field::Fault;
-        }
-        if s[first] == 48 {
-            if first + 1 == end {
-                return Field::Number(0, next);
-            }
-            return Field::Fault;
-        }
-        match read_digits(s, first, end) {
-            Digits::Value(x) => Field::Number(x, next),
-            Digits::Fault => Field::Fault,
-        }
+        let columns = s.get(self.at..)?.get(..W)?;
+        Some((read(columns)?, Cursor { at: self.at + W }))
     }
+}
 
-    // The field of 5 columns here, as on a sheet line.
-    pub fn five(self, s: &[u8]) -> Field
-        ensures { told result ≡ reads 5 s.now self.at }
-    {
-        let at = self.at;
-        if s.len() < 5 {
-            return Field::Fault;
-        }
-        if s.len() - 5 < at {
-            return Field::Fault;
-        }
-        let left = four(s, at);
-        match five_columns(left, wide(s[at + 4])) {
-            Digits::Value(x) => Field::Number(x, Cursor { at: at + 5 }),
-            Digits::Fault => Field::Fault,
-        }
+// The numbers of N fields of W columns, each at the position after the one before. They are read from a part of N * W columns, so that the
+// compiler knows them to be there.
+pub fn fields<const N: usize, const W: usize>(s: &[u8], at: usize) -> Option<[u32; N]>
+    requires any { 1 ≤ N }
+    requires few { N < 2 ^ 60 }
+    requires narrow { W ≤ 8 }
+    ensures { held result ≡ fields N W s.now at }
+{
+    let line = s.get(at..)?.get(..N * W)?;
+    let mut numbers = [0u32; N];
+    let mut here = Cursor { at: 0 };
+    for x in &mut numbers {
+        (*x, here) = here.field::<W>(line)?;
     }
-
-    // The field of 8 columns here, as on a line of a reading.
-    pub fn eight(self, s: &[u8]) -> Field
-        ensures { told result ≡ reads 8 s.now self.at }
-    {
-        self.read(s, 8)
-    }
+    Some(numbers)
 }

@@ -1,125 +1,67 @@
-use Prim.Native.Nat.{◌/◌, ◌%◌}
-use native.Mathlib.Omega.{arith}
-use Rattle.columns.proofs.Five.{fails, passes, among_bounds, last_fault, one_digit, two_fault, two_digits, fourth_fault, three_fault, three_digits, third_fault}
-use borrow.Author.Rules.{rules}
+use Rattle.columns.proofs.Five.{five, last_fault, one_digit, two_fault, two_digits, fourth_fault, three_fault, three_digits, third_fault, four_fault, four_digits, second_fault, five_fault, five_digits}
 use Rattle.columns.proofs.five_columns.Goals as goal
 
-pub returns-then-not-among : goal.returns-then-not-among
-returns-then-not-among c =
-    let a = c.args in
-    last_fault a.left a.e (fails c.among.ensures c.if-not-among.true-raw)
-
-pub overflow_sub-ones : goal.overflow_sub-ones
-overflow_sub-ones c =
-    let a = c.args in
-    let k0 = among_bounds 48 57 a.e (passes c.among.ensures c.if-not-among.false-raw) in
-    omega arith
+pub returns-in_err-ones : goal.returns-in_err-ones
+returns-in_err-ones c =
+    let h = five c.args.columns.now _ c.told-columns c.fits-columns c.first_four-left.ensures in
+    rw c.from_residual.ensures (last_fault h c.in_err-ones.ensures)
 
 pub returns-then-left-eq538976288 : goal.returns-then-left-eq538976288
 returns-then-left-eq538976288 c =
-    let a = c.args in
-    one_digit a.left a.e c.if-left-eq538976288.true (passes c.among.ensures c.if-not-among.false-raw)
+    let h = five c.args.columns.now _ c.told-columns c.fits-columns c.first_four-left.ensures in
+    one_digit h c.if-left-eq538976288.true c.in_ok-ones.ensures
 
-pub returns-then-not-among-2 : goal.returns-then-not-among-2
-returns-then-not-among-2 c =
-    let a = c.args in
-    two_fault a.left a.e c.if-left-eq538976288.false c.if-left-eq2105376.true (fails c.among-then-left-eq2105376.ensures c.if-not-among-2.true-raw)
-
-pub overflow_sub-result : goal.overflow_sub-result
-overflow_sub-result c =
-    let a = c.args in
-    let k0 = among_bounds 49 57 (a.left / 16777216) (passes c.among-then-left-eq2105376.ensures c.if-not-among-2.false-raw) in
-    let k1 = among_bounds 48 57 a.e (passes c.among.ensures c.if-not-among.false-raw) in
-    omega arith
-
-pub overflow_mul-result : goal.overflow_mul-result
-overflow_mul-result c =
-    let a = c.args in
-    let k0 = among_bounds 49 57 (a.left / 16777216) (passes c.among-then-left-eq2105376.ensures c.if-not-among-2.false-raw) in
-    let k1 = among_bounds 48 57 a.e (passes c.among.ensures c.if-not-among.false-raw) in
-    omega arith
-
-pub overflow_add-result : goal.overflow_add-result
-overflow_add-result c =
-    let a = c.args in
-    let k0 = among_bounds 49 57 (a.left / 16777216) (passes c.among-then-left-eq2105376.ensures c.if-not-among-2.false-raw) in
-    let k1 = among_bounds 48 57 a.e (passes c.among.ensures c.if-not-among.false-raw) in
-    omega arith
+pub returns-in_err-first_digit : goal.returns-in_err-first_digit
+returns-in_err-first_digit c =
+    let h = five c.args.columns.now _ c.told-columns c.fits-columns c.first_four-left.ensures in
+    rw c.from_residual-in_err-first_digit.ensures (two_fault h c.if-left-eq538976288.false c.if-left-eq2105376.true c.in_err-first_digit.ensures)
 
 pub returns-then-left-eq2105376 : goal.returns-then-left-eq2105376
 returns-then-left-eq2105376 c =
-    let a = c.args in
-    two_digits a.left a.e c.if-left-eq538976288.false c.if-left-eq2105376.true (passes c.among-then-left-eq2105376.ensures c.if-not-among-2.false-raw) (passes c.among.ensures c.if-not-among.false-raw)
+    let h = five c.args.columns.now _ c.told-columns c.fits-columns c.first_four-left.ensures in
+    two_digits h c.if-left-eq2105376.true c.in_ok-first_digit.ensures c.in_ok-ones.ensures
 
-pub returns-then-not-among-3 : goal.returns-then-not-among-3
-returns-then-not-among-3 c =
-    let a = c.args in
-    fourth_fault a.left a.e c.if-left-eq538976288.false (fails c.among-2.ensures c.if-not-among-3.true-raw)
+pub returns-in_err-tens : goal.returns-in_err-tens
+returns-in_err-tens c =
+    let h = five c.args.columns.now _ c.told-columns c.fits-columns c.first_four-left.ensures in
+    rw c.from_residual-in_err-tens.ensures (fourth_fault h c.if-left-eq538976288.false c.in_err-tens.ensures)
 
-pub overflow_sub-tens : goal.overflow_sub-tens
-overflow_sub-tens c =
-    let a = c.args in
-    let k0 = among_bounds 48 57 (a.left / 16777216) (passes c.among-2.ensures c.if-not-among-3.false-raw) in
-    let k1 = among_bounds 48 57 a.e (passes c.among.ensures c.if-not-among.false-raw) in
-    omega arith
-
-pub overflow_mul-tens : goal.overflow_mul-tens
-overflow_mul-tens c =
-    let a = c.args in
-    let k0 = among_bounds 48 57 (a.left / 16777216) (passes c.among-2.ensures c.if-not-among-3.false-raw) in
-    let k1 = among_bounds 48 57 a.e (passes c.among.ensures c.if-not-among.false-raw) in
-    omega arith
-
-pub overflow_add-tens : goal.overflow_add-tens
-overflow_add-tens c =
-    let a = c.args in
-    let k0 = among_bounds 48 57 (a.left / 16777216) (passes c.among-2.ensures c.if-not-among-3.false-raw) in
-    let k1 = among_bounds 48 57 a.e (passes c.among.ensures c.if-not-among.false-raw) in
-    omega arith
-
-pub returns-then-not-among-4 : goal.returns-then-not-among-4
-returns-then-not-among-4 c =
-    let a = c.args in
-    three_fault a.left a.e c.if-left-eq2105376.false c.if-left-eq8224.true (fails c.among-then-left-eq8224.ensures c.if-not-among-4.true-raw)
-
-pub overflow_sub-result-then-left-eq8224 : goal.overflow_sub-result-then-left-eq8224
-overflow_sub-result-then-left-eq8224 c =
-    let a = c.args in
-    let k0 = among_bounds 49 57 (a.left / 65536 % 256) (passes c.among-then-left-eq8224.ensures c.if-not-among-4.false-raw) in
-    let k1 = among_bounds 48 57 (a.left / 16777216) (passes c.among-2.ensures c.if-not-among-3.false-raw) in
-    let k2 = among_bounds 48 57 a.e (passes c.among.ensures c.if-not-among.false-raw) in
-    omega arith
-
-pub overflow_mul-result-then-left-eq8224 : goal.overflow_mul-result-then-left-eq8224
-overflow_mul-result-then-left-eq8224 c =
-    let a = c.args in
-    let k0 = among_bounds 49 57 (a.left / 65536 % 256) (passes c.among-then-left-eq8224.ensures c.if-not-among-4.false-raw) in
-    let k1 = among_bounds 48 57 (a.left / 16777216) (passes c.among-2.ensures c.if-not-among-3.false-raw) in
-    let k2 = among_bounds 48 57 a.e (passes c.among.ensures c.if-not-among.false-raw) in
-    omega arith
-
-pub overflow_add-result-then-left-eq8224 : goal.overflow_add-result-then-left-eq8224
-overflow_add-result-then-left-eq8224 c =
-    let a = c.args in
-    let k0 = among_bounds 49 57 (a.left / 65536 % 256) (passes c.among-then-left-eq8224.ensures c.if-not-among-4.false-raw) in
-    let k1 = among_bounds 48 57 (a.left / 16777216) (passes c.among-2.ensures c.if-not-among-3.false-raw) in
-    let k2 = among_bounds 48 57 a.e (passes c.among.ensures c.if-not-among.false-raw) in
-    omega arith
+pub returns-in_err-first_digit-2 : goal.returns-in_err-first_digit-2
+returns-in_err-first_digit-2 c =
+    let h = five c.args.columns.now _ c.told-columns c.fits-columns c.first_four-left.ensures in
+    rw c.from_residual-in_err-first_digit-2.ensures (three_fault h c.if-left-eq2105376.false c.if-left-eq8224.true c.in_err-first_digit-2.ensures)
 
 pub returns-then-left-eq8224 : goal.returns-then-left-eq8224
 returns-then-left-eq8224 c =
-    let a = c.args in
-    three_digits a.left a.e c.if-left-eq2105376.false c.if-left-eq8224.true (passes c.among-then-left-eq8224.ensures c.if-not-among-4.false-raw) (passes c.among-2.ensures c.if-not-among-3.false-raw) (passes c.among.ensures c.if-not-among.false-raw)
+    let h = five c.args.columns.now _ c.told-columns c.fits-columns c.first_four-left.ensures in
+    three_digits h c.if-left-eq8224.true c.in_ok-first_digit-2.ensures c.in_ok-tens.ensures c.in_ok-ones.ensures
 
-pub returns-then-not-among-5 : goal.returns-then-not-among-5
-returns-then-not-among-5 c =
-    let a = c.args in
-    third_fault a.left a.e c.if-left-eq2105376.false (fails c.among-3.ensures c.if-not-among-5.true-raw)
+pub returns-in_err-hundreds : goal.returns-in_err-hundreds
+returns-in_err-hundreds c =
+    let h = five c.args.columns.now _ c.told-columns c.fits-columns c.first_four-left.ensures in
+    rw c.from_residual-in_err-hundreds.ensures (third_fault h c.if-left-eq2105376.false c.in_err-hundreds.ensures)
 
-pub long_columns-requires : goal.long_columns-requires
-long_columns-requires c = record {
-  third = passes c.among-3.ensures c.if-not-among-5.false-raw;
-  fourth = passes c.among-2.ensures c.if-not-among-3.false-raw;
-  last = passes c.among.ensures c.if-not-among.false-raw;
-  begun = c.if-left-eq8224.false;
-}
+pub returns-in_err-first_digit-3 : goal.returns-in_err-first_digit-3
+returns-in_err-first_digit-3 c =
+    let h = five c.args.columns.now _ c.told-columns c.fits-columns c.first_four-left.ensures in
+    rw c.from_residual-in_err-first_digit-3.ensures (four_fault h c.if-left-eq8224.false c.if-a-eq32.true c.in_err-first_digit-3.ensures)
+
+pub returns-then-a-eq32 : goal.returns-then-a-eq32
+returns-then-a-eq32 c =
+    let h = five c.args.columns.now _ c.told-columns c.fits-columns c.first_four-left.ensures in
+    four_digits h c.if-a-eq32.true c.in_ok-first_digit-3.ensures c.in_ok-hundreds.ensures c.in_ok-tens.ensures c.in_ok-ones.ensures
+
+pub returns-in_err-first_digit-4 : goal.returns-in_err-first_digit-4
+returns-in_err-first_digit-4 c =
+    let h = five c.args.columns.now _ c.told-columns c.fits-columns c.first_four-left.ensures in
+    rw c.from_residual-in_err-first_digit-4.ensures (five_fault h c.if-a-eq32.false c.in_err-first_digit-4.ensures)
+
+pub returns-in_err-digit : goal.returns-in_err-digit
+returns-in_err-digit c =
+    let h = five c.args.columns.now _ c.told-columns c.fits-columns c.first_four-left.ensures in
+    rw c.from_residual-in_err-digit.ensures (second_fault h c.if-left-eq8224.false c.in_err-digit.ensures)
+
+pub returns : goal.returns
+returns c =
+    let h = five c.args.columns.now _ c.told-columns c.fits-columns c.first_four-left.ensures in
+    five_digits h c.in_ok-first_digit-4.ensures c.in_ok-digit.ensures c.in_ok-hundreds.ensures c.in_ok-tens.ensures c.in_ok-ones.ensures

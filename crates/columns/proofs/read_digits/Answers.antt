@@ -1,49 +1,20 @@
-use mathlib.Core.Path.{◌≡◌, refl, ◌∙◌, sym, ap}
-use Prim.Native.Nat.{ℕ, ◌≤◌, ◌<◌, ◌-◌, ◌^◌}
-use native.Mathlib.Omega.{arith}
-use native.Mathlib.Nat.{one-le-pow}
-use lib.Dec.{lit≤}
-use lib.ListN.{get_or}
-use lib.Seq.{slice}
-use Rattle.columns.specs.Column.{digits_after}
-use Rattle.columns.proofs.Laws.{digit_read, low_fault, high_fault, all_read, power_step, power_bound}
-use borrow.Author.Rules.{rules}
+use Rattle.std.proofs.Common.{arith, get_or, ◌∙◌}
+use Rattle.columns.proofs.Laws.{digit_read, digit_fault, all_read, power_step, power_bound, digit_small}
 use Rattle.columns.proofs.read_digits.Goals as goal
 
-pub loop-i-init : goal.loop-i-init
-loop-i-init c = (omega arith, omega arith, one-le-pow _ 10 (lit≤ tt), refl)
+pub overflow_mul-v : goal.overflow_mul-v
+overflow_mul-v c = let p = power_bound _ _ c.loop-b.invariant.0 (omega arith) in omega arith
 
-pub returns-then-b-lt48 : goal.returns-then-b-lt48
-returns-then-b-lt48 c =
-    let l = c.loop-i in
-    let a = c.args in
-    low_fault a.s.now l.i a.end l.v (omega arith) (omega arith) (omega arith) ∙ l.invariant.3
+pub returns-in_err-v : goal.returns-in_err-v
+returns-in_err-v c =
+    rw c.from_residual.ensures (digit_fault c.args.digits.now c.loop-b.b-index c.loop-b.v (omega arith) c.in_err-v.ensures ∙ c.loop-b.invariant.1)
 
-pub returns-then-b-gt57 : goal.returns-then-b-gt57
-returns-then-b-gt57 c =
-    let l = c.loop-i in
-    let a = c.args in
-    high_fault a.s.now l.i a.end l.v (omega arith) (omega arith) (omega arith) ∙ l.invariant.3
-
-pub with_digit-v-requires : goal.with_digit-v-requires
-with_digit-v-requires c =
-    let l = c.loop-i in
-    (power_bound l.v _ l.invariant.2 (omega arith), omega arith, omega arith)
-
-pub loop-i-preserved : goal.loop-i-preserved
-loop-i-preserved c =
-    let l = c.loop-i in
-    let a = c.args in
-    let b = get_or a.s.now l.i 0 in (
-      omega arith,
-      omega arith,
-      rw c.with_digit-v.ensures (power_step l.v (b - 48) l.i a.at l.invariant.0 l.invariant.2 (omega arith)),
-      rw c.with_digit-v.ensures (digit_read a.s.now l.i a.end l.v (omega arith) (omega arith) (omega arith) (omega arith) ∙ l.invariant.3),
+pub loop-b-preserved : goal.loop-b-preserved
+loop-b-preserved c =
+    let l = c.loop-b in (
+      power_step l.v _ l.b-index l.invariant.0 (digit_small (get_or c.args.digits.now l.b-index 0) c.in_ok-v.ensures),
+      digit_read c.args.digits.now l.b-index l.v (omega arith) c.in_ok-v.ensures ∙ l.invariant.1,
     )
 
 pub returns : goal.returns
-returns c =
-    let l = c.loop-i in
-    let a = c.args in
-    let e : l.i ≡ a.end = omega arith in
-    all_read a.s.now a.end l.v ∙ ap (λ (i : ℕ). digits_after l.v (slice i a.end a.s.now)) (sym e) ∙ l.invariant.3
+returns c = all_read c.args.digits.now c.loop-b.b-index c.loop-b.v (omega arith) ∙ c.loop-b.invariant.1
