@@ -1,23 +1,22 @@
 -- The second pass: what does not stay is blanked, row by row. Assumes nothing.
-use mathlib.Core.Bool.{Bool, true, false, cond, not, ◌||◌, true≢false}
+use mathlib.Core.Bool.{Bool, true, false, cond, not, ◌||◌}
 use mathlib.Core.List.{List}
 use mathlib.Core.Logic.{inl, inr, ◌≢◌}
 use mathlib.Core.Path.{◌≡◌, refl, sym, ap, ap₂, ◌∙◌, subst}
 use Prim.Native.Nat.{ℕ, suc, ◌+◌, ◌*◌, ◌≤◌, ◌<◌}
 use native.Mathlib.Decide.{ℕ_discrete}
-use native.Mathlib.Nat.{zero-mul}
 use native.Mathlib.Omega.{arith}
 use lib.Dec.{ltb}
 use lib.ListN.{length, get_or, drop}
 use lib.Seq.{drop-drop}
 use borrow.Author.Tests.{ltb-true, ltb-false, lt-ltb}
 use Rattle.schema.specs.Cells.{held_at, reach_at, cell_at, stored, HasCell}
-use Rattle.schema.specs.Derivation.{Pair, ◌at◌}
+use Rattle.schema.specs.Derivation.{◌at◌}
 use Rattle.schema.specs.Table.{Within, cell, cells, contents}
 use Rattle.schema.proofs.Cell.{cell_below}
 use Rattle.schema.proofs.Cells.{stored_cell, cell_elsewhere, stored_later, stored_length, cell_later}
 use Rattle.kept.specs.Kept.{looks_below, kept, retained}
-use Rattle.passes.specs.Passes.{Unchanged, Firsts, Keeps, Starts, StartsUnless}
+use Rattle.passes.specs.Passes.{Unchanged, Firsts, Keeps, Starts}
 use Rattle.passes.proofs.Rows.{next_row, row_cell}
 
 -- Nothing changes before the first position.
@@ -68,14 +67,8 @@ keeps_more {limit} {start} {p} {T₀} {T} l m k {T'} e = record {
         ap (λ (U : List ℕ). cell_at U (start + p)) e ∙ cell_kept limit (start + p) T (let z = k.size in omega arith) ∙ ap (λ (j : ℕ × ℕ). cond (looks_below limit j) j (0, 0)) was
         ∙ ap (λ (b : Bool). cond (not b || looks_below limit (cell_at T₀ (start + p))) (cell_at T₀ (start + p)) (0, 0)) (sym (lt-ltb p limit l))
 
--- So many rows are blanked, and the next begins at a number.
-pub record Blanking (v n limit : ℕ) (T₀ T : List ℕ) (row start : ℕ) : Type 0 where
-  pub inside : row ≤ v
-  pub begins : start ≡ cells row n
-  pub retains : Starts row n (retained limit n T₀) T₀ T
-
 -- No row is blanked yet.
-retains_none : (n limit : ℕ) (T : List ℕ) → Starts 0 n (retained limit n T) T T
+pub retains_none : (n limit : ℕ) (T : List ℕ) → Starts 0 n (retained limit n T) T T
 retains_none n limit T = record { holds = λ A p w. absurd (omega (arith, w.variable.0, w.variable.1)); later = refl; size = refl }
 
 -- The cells from a row on are as they were.
@@ -100,7 +93,7 @@ module _ {row n limit : ℕ} {T₀ T T' : List ℕ} (inside : limit ≤ n) (befo
   earlier_row : (A p : ℕ) → Within row n A p → contents n T' (A at p) ≡ retained limit n T₀ (A at p)
   earlier_row A p w = keeps.others (cell n (A at p)) (inl (cell_below row n (A at p) w)) ∙ before.holds A p w
 
-  retains_more : Starts (row + 1) n (retained limit n T₀) T₀ T'
+  pub retains_more : Starts (row + 1) n (retained limit n T₀) T₀ T'
   retains_more = record {
     holds = λ A p w. elim (ℕ_discrete A (suc row)) [
       | yes e ↦ rw e (this_row p)
@@ -115,37 +108,9 @@ module _ {row n limit : ℕ} {T₀ T T' : List ℕ} (inside : limit ≤ n) (befo
   }
 
 -- What was found of a row before the passes is so of the table now.
-pub row_unchanged : {v n limit row start : ℕ} {T₀ T firsts : List ℕ} → row < v → Blanking v n limit T₀ T row start → Firsts v n limit T₀ firsts
-    → (get_or firsts row 0 ≤ limit) × Unchanged limit T start (get_or firsts row 0)
-row_unchanged {limit = limit} {row = row} {T = T} {firsts = firsts} l b f = (
+pub row_unchanged : {v n limit row : ℕ} {T₀ T firsts : List ℕ} → row < v → Starts row n (retained limit n T₀) T₀ T → Firsts v n limit T₀ firsts
+    → (get_or firsts row 0 ≤ limit) × Unchanged limit T (cells row n) (get_or firsts row 0)
+row_unchanged {limit = limit} {row = row} l b f = (
   f.low row l,
-  λ p m. subst (λ (i : ℕ). kept limit p (cell_at T (i + p)) ≡ cell_at T (i + p)) (sym b.begins)
-      (ap (kept limit p) (row_rest limit b.retains p) ∙ f.unchanged row l p m ∙ sym (row_rest limit b.retains p)),
+  λ p m. ap (kept limit p) (row_rest limit b p) ∙ f.unchanged row l p m ∙ sym (row_rest limit b p),
 )
-
-pub blanking_begins : (v n limit : ℕ) (T : List ℕ) → Blanking v n limit T T 0 0
-blanking_begins v n limit T = record { inside = omega arith; begins = sym (zero-mul (n + 1)); retains = retains_none n limit T }
-
-pub blanking_goes_on : {v n limit row start : ℕ} {T₀ T : List ℕ} → limit ≤ n → row < v → Blanking v n limit T₀ T row start → (T' : List ℕ) → Keeps limit start (limit) T T'
-    → Blanking v n limit T₀ T' (row + 1) (start + (n + 1))
-blanking_goes_on {n = n} {limit = limit} {row = row} {T = T} l m b T' k = record {
-  inside = omega arith;
-  begins = ap (λ (i : ℕ). i + (n + 1)) b.begins ∙ sym (next_row row n);
-  retains = retains_more l b.retains (subst (λ (i : ℕ). Keeps limit i (limit) T T') b.begins k);
-}
-
-pub blanking_ends : {v n limit row start : ℕ} {T₀ T : List ℕ} → v ≤ row → Blanking v n limit T₀ T row start → Starts v n (retained limit n T₀) T₀ T
-blanking_ends {v} {n} {limit} {row} {start} {T₀} {T} l b =
-    let m = b.inside in
-    let e : row ≡ v = omega arith in
-    subst (λ (k : ℕ). Starts k n (retained limit n T₀) T₀ T) e b.retains
-
--- ---- Both passes: the cells are retained, or the table is left whole.
-
-pub unless_out : (out : Bool) (v n : ℕ) (start : Pair → ℕ × ℕ) (T T' : List ℕ) → not out ≡ true → Starts v n start T T' → StartsUnless out v n start T T'
-unless_out true v n start T T' e r = absurd (true≢false (sym e))
-unless_out false v n start T T' e r = r
-
-pub where_out : (out : Bool) (v n : ℕ) (start : Pair → ℕ × ℕ) (T : List ℕ) → not out ≡ false → StartsUnless out v n start T T
-where_out true v n start T e = refl
-where_out false v n start T e = absurd (true≢false e)

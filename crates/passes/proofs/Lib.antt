@@ -2,3 +2,4 @@
 pub mod Rows
 pub mod Looking
 pub mod Blanking
+pub mod Refusing

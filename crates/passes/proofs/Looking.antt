@@ -3,9 +3,8 @@ use mathlib.Core.Bool.{Bool, true, false, cond, not, ◌&&◌, ◌||◌, true≢
 use mathlib.Core.List.{List}
 use mathlib.Core.Logic.{◌≢◌}
 use mathlib.Core.Path.{◌≡◌, refl, sym, ap, ap₂, ◌∙◌, subst}
-use Prim.Native.Nat.{ℕ, zero, suc, ◌+◌, ◌-◌, ◌*◌, ◌≤◌, ◌<◌}
+use Prim.Native.Nat.{ℕ, zero, suc, ◌+◌, ◌-◌, ◌*◌, ◌≤◌, ◌<◌, min}
 use native.Mathlib.Decide.{ℕ_discrete}
-use native.Mathlib.Nat.{zero-mul}
 use native.Mathlib.Omega.{arith}
 use lib.Dec.{eqb, ltb}
 use lib.ListN.{length, get_or, set, length-set}
@@ -19,9 +18,8 @@ use Rattle.kept.specs.Kept.{stays, kept, retained}
 use Rattle.kept.specs.Range.{out_of_range, cells_out}
 use Rattle.kept.specs.Some.{some}
 use Rattle.kept.proofs.Ranged.{range_low}
-use Rattle.kept.proofs.Some.{some_none, some_one, some_more}
-use Rattle.passes.specs.Passes.{BlankIf, EndBlankIf, row_out, Unchanged, Looked, Firsts, FirstsUnless}
-use Rattle.passes.proofs.Rows.{next_row}
+use Rattle.kept.proofs.Some.{some_none, some_each, some_one, some_more}
+use Rattle.passes.specs.Passes.{BlankIf, EndBlankIf, row_out, Unchanged, Looked, Firsts}
 
 or_false : (b : Bool) → (b || false) ≡ b
 or_false true = refl
@@ -189,25 +187,26 @@ module _ (n limit : ℕ) (T : List ℕ) (start : ℕ) where
         ];
   }
 
-  -- After the last of them: where one is changed before the position that was found, the position is theirs;
-  module _ {from to first : ℕ} {before out changes : Bool} (g : Looked n limit T start from before first) (h : Looking from to out changes) where
-    pub look_changes : (changes && ltb from first) ≡ true → Looked n limit T start to out from
-    look_changes e =
-        let l : from < first = ltb-true from first (right_true changes (ltb from first) e) in
-        record { says = h.says; low = let k = g.low in omega arith; unchanged = λ p a b. g.unchanged p b (omega arith) }
+  -- After the last of them: one that stays is out of range;
+  module _ {from to first : ℕ} {out changes : Bool} (g : Looked n limit T start from false first) (h : Looking from to out changes) where
+    pub look_refuses : out ≡ true → row_out n limit T start to ≡ true
+    look_refuses e = sym h.says ∙ e
+
+    -- or none is, and where one is changed the position is at most theirs;
+    pub look_changes : out ≡ false → Looked n limit T start to false (min first from)
+    look_changes e = record {
+      says = sym e ∙ h.says;
+      low = let k = g.low in omega arith;
+      unchanged = λ p a b. g.unchanged p (omega arith) (omega arith);
+    }
 
     -- else it stays.
-    pub look_stays : (changes && ltb from first) ≡ false → Looked n limit T start to out first
-    look_stays e = record { says = h.says; low = g.low; unchanged = go changes (ltb from first) refl refl e }
+    pub look_stays : out ≡ false → changes ≡ false → Looked n limit T start to false first
+    look_stays e f = record { says = sym e ∙ h.says; low = g.low; unchanged = λ p l m. by_test p (ltb p from) refl l m }
       where
-        go : (x y : Bool) → changes ≡ x → ltb from first ≡ y → (x && y) ≡ false → (p : ℕ) → p < to → p < first → kept limit p (cell_at T (start + p)) ≡ cell_at T (start + p)
-        go true true a b k p l m = absurd (true≢false k)
-        go true false a b k p l m = let i = ltb-false from first b in g.unchanged p (omega arith) m
-        go false y a b k p l m = by_test (ltb p from) refl
-          where
-            by_test : (z : Bool) → ltb p from ≡ z → kept limit p (cell_at T (start + p)) ≡ cell_at T (start + p)
-            by_test true i = g.unchanged p (ltb-true p from i) m
-            by_test false i = h.unchanged a p (ltb-false p from i) l
+        by_test : (p : ℕ) (b : Bool) → ltb p from ≡ b → p < to → p < first → kept limit p (cell_at T (start + p)) ≡ cell_at T (start + p)
+        by_test p true i l m = g.unchanged p (ltb-true p from i) m
+        by_test p false i l m = h.unchanged f p (ltb-false p from i) l
 
 -- ---- All rows.
 
@@ -220,82 +219,73 @@ variable_row n limit T i =
     let e : suc i - 1 ≡ i = omega arith in
     ap (λ (a : ℕ). some (n + 1) (λ p. out_of_range n p (kept limit p (cell_at T (a * (n + 1) + p))))) e
 
--- Before a row that begins at a number: no row before it has a retained cell out of range, and the first position of each is noted.
-pub record RowsPassing (v n limit : ℕ) (T firsts : List ℕ) (row start : ℕ) : Type 0 where
-  pub inside : row ≤ v
-  pub begins : start ≡ cells row n
+-- Before a row: no row before it has a retained cell out of range, and the first position of each is noted.
+pub record RowsPassing (n limit : ℕ) (T firsts : List ℕ) (row : ℕ) : Type 0 where
   pub each : (i : ℕ) → i < row → some (n + 1) (λ p. out_of_range n p (retained limit n T (suc i at p))) ≡ false
   pub noted : Firsts row n limit T firsts
   pub room : length firsts ≡ 256
 
-module _ (v n limit : ℕ) (T : List ℕ) where
-  pub rows_begin : {firsts : List ℕ} → length firsts ≡ 256 → RowsPassing v n limit T firsts 0 0
+module _ (n limit : ℕ) (T : List ℕ) where
+  pub rows_begin : {firsts : List ℕ} → length firsts ≡ 256 → RowsPassing n limit T firsts 0
   rows_begin e = record {
-    inside = omega arith;
-    begins = sym (zero-mul (n + 1));
     each = λ i l. absurd (omega arith);
     noted = record { low = λ i l. absurd (omega arith); unchanged = λ i l. absurd (omega arith) };
     room = e;
   }
 
-  module _ {firsts : List ℕ} {row start : ℕ} (passing : RowsPassing v n limit T firsts row start) {out : Bool} {first : ℕ} (found : Looked n limit T start (n + 1) out first) where
-    this_row_is : {b : Bool} → out ≡ b → variable_out n limit T row ≡ b
-    this_row_is e = variable_row n limit T row ∙ ap (λ (i : ℕ). row_out n limit T i (n + 1)) (sym passing.begins) ∙ sym found.says ∙ e
+  module _ {firsts : List ℕ} {row : ℕ} (passing : RowsPassing n limit T firsts row) where
+    module _ {first : ℕ} (found : Looked n limit T (cells row n) (n + 1) false first) where
+      -- The first position of this row is noted, and the others stay.
+      first_here : row < length firsts → get_or (set firsts row first) row 0 ≡ first
+      first_here l = get_or-set_same firsts row first 0 l
 
-    -- The first position of this row is noted, and the others stay.
-    first_here : row < length firsts → get_or (set firsts row first) row 0 ≡ first
-    first_here l = get_or-set_same firsts row first 0 l
+      first_there : (i : ℕ) → i ≢ row → get_or (set firsts row first) i 0 ≡ get_or firsts i 0
+      first_there i d = get_or-set_other firsts row i first 0 d
 
-    first_there : (i : ℕ) → i ≢ row → get_or (set firsts row first) i 0 ≡ get_or firsts i 0
-    first_there i d = get_or-set_other firsts row i first 0 d
+      unchanged_here : limit ≤ n → Unchanged limit T (cells row n) first
+      unchanged_here l p m = let h = found.low in found.unchanged p (omega arith) m
 
-    unchanged_here : limit ≤ n → Unchanged limit T (cells row n) first
-    unchanged_here l p m = let h = found.low in subst (λ (i : ℕ). kept limit p (cell_at T (i + p)) ≡ cell_at T (i + p)) passing.begins (found.unchanged p (omega arith) m)
+      noted_more : limit ≤ n → row < 256 → Firsts (row + 1) n limit T (set firsts row first)
+      noted_more l m = record {
+        low = λ i h. elim (ℕ_discrete i row) [
+          | yes z ↦ subst (λ (k : ℕ). k ≤ limit) (sym (ap (λ (k : ℕ). get_or (set firsts row first) k 0) z ∙ first_here here)) found.low
+          | no d ↦ subst (λ (k : ℕ). k ≤ limit) (sym (first_there i d)) (passing.noted.low i (omega arith))
+        ];
+        unchanged = λ i h. elim (ℕ_discrete i row) [
+          | yes z ↦
+              subst (λ (k : ℕ). Unchanged limit T (cells k n) (get_or (set firsts row first) k 0)) (sym z)
+              (subst (Unchanged limit T (cells row n)) (sym (first_here here)) (unchanged_here l))
+          | no d ↦ subst (Unchanged limit T (cells i n)) (sym (first_there i d)) (passing.noted.unchanged i (omega arith))
+        ];
+      }
+        where
+          here : row < length firsts
+          here = let e = passing.room in omega arith
 
-    noted_more : limit ≤ n → row < 256 → Firsts (row + 1) n limit T (set firsts row first)
-    noted_more l m = record {
-      low = λ i h. elim (ℕ_discrete i row) [
-        | yes z ↦ subst (λ (k : ℕ). k ≤ limit) (sym (ap (λ (k : ℕ). get_or (set firsts row first) k 0) z ∙ first_here here)) found.low
-        | no d ↦ subst (λ (k : ℕ). k ≤ limit) (sym (first_there i d)) (passing.noted.low i (omega arith))
-      ];
-      unchanged = λ i h. elim (ℕ_discrete i row) [
-        | yes z ↦
-            subst (λ (k : ℕ). Unchanged limit T (cells k n) (get_or (set firsts row first) k 0)) (sym z)
-            (subst (Unchanged limit T (cells row n)) (sym (first_here here)) (unchanged_here l))
-        | no d ↦ subst (Unchanged limit T (cells i n)) (sym (first_there i d)) (passing.noted.unchanged i (omega arith))
-      ];
-    }
-      where
-        here : row < length firsts
-        here = let e = passing.room in omega arith
+      pub rows_go_on : limit ≤ n → row < 256 → RowsPassing n limit T (set firsts row first) (row + 1)
+      rows_go_on l m = record {
+        each = λ i k. elim (ℕ_discrete i row) [
+          | yes z ↦ ap (variable_out n limit T) z ∙ variable_row n limit T row ∙ sym found.says
+          | no d ↦ passing.each i (omega arith)
+        ];
+        noted = noted_more l m;
+        room = length-set firsts row first ∙ passing.room;
+      }
 
-    pub rows_go_on : limit ≤ n → v ≤ 256 → row < v → out ≡ false → RowsPassing v n limit T (set firsts row first) (row + 1) (start + (n + 1))
-    rows_go_on k few l e = record {
-      inside = omega arith;
-      begins = ap (λ (k : ℕ). k + (n + 1)) passing.begins ∙ sym (next_row row n);
-      each = λ i m. elim (ℕ_discrete i row) [
-        | yes z ↦ ap (variable_out n limit T) z ∙ this_row_is e
-        | no d ↦ passing.each i (omega arith)
-      ];
-      noted = noted_more k (omega arith);
-      room = length-set firsts row first ∙ passing.room;
-    }
-
-    pub rows_out : row < v → out ≡ true → cells_out v n (retained limit n T) ≡ true
+    pub rows_in : (v : ℕ) → row ≡ v → cells_out v n (retained limit n T) ≡ false
     unfolding cells_out
-    rows_out l e = some_one v (variable_out n limit T) row l (this_row_is e)
+    rows_in v e = some_none v (variable_out n limit T) (λ i m. passing.each i (omega arith))
 
-  pub rows_in : {firsts : List ℕ} {row start : ℕ} → RowsPassing v n limit T firsts row start → v ≤ row → cells_out v n (retained limit n T) ≡ false
+  -- A row with a cell out of range.
+  pub rows_out : {v row : ℕ} → row < v → row_out n limit T (cells row n) (n + 1) ≡ true → cells_out v n (retained limit n T) ≡ true
   unfolding cells_out
-  rows_in passing l = some_none v (variable_out n limit T) (λ i m. passing.each i (omega arith))
+  rows_out {v} {row} l e = some_one v (variable_out n limit T) row l (variable_row n limit T row ∙ e)
 
-  pub rows_noted : {firsts : List ℕ} {row start : ℕ} → RowsPassing v n limit T firsts row start → v ≤ row → Firsts v n limit T firsts
-  rows_noted {firsts} {row} passing l =
-      let m = passing.inside in
-      let e : row ≡ v = omega arith in
-      subst (λ (k : ℕ). Firsts k n limit T firsts) e passing.noted
-
--- They are noted where no retained cell is out of range.
-pub noted_unless : (out : Bool) {v n limit : ℕ} {T firsts : List ℕ} → not out ≡ true → FirstsUnless out v n limit T firsts → Firsts v n limit T firsts
-noted_unless true e f = absurd (true≢false (sym e))
-noted_unless false e f = f
+-- Where a row up to a position has a cell out of range, the whole row has.
+pub row_longer : (n limit : ℕ) (T : List ℕ) (start : ℕ) {count : ℕ} → count ≤ n + 1 → row_out n limit T start count ≡ true → row_out n limit T start (n + 1) ≡ true
+row_longer n limit T start {count} l e = go (row_out n limit T start (n + 1)) refl
+  where
+    go : (b : Bool) → row_out n limit T start (n + 1) ≡ b → row_out n limit T start (n + 1) ≡ true
+    go true f = f
+    go false f =
+        absurd (true≢false (sym e ∙ some_none count (out_at n limit T start) (λ i m. some_each (n + 1) (out_at n limit T start) f i (omega arith))))

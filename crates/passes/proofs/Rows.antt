@@ -16,8 +16,8 @@ pub row_cell : (row n p : ℕ) → cell n (suc row at p) ≡ cells row n + p
 row_cell row n p = let e : suc row - 1 ≡ row = omega arith in ap (λ (a : ℕ). a * (n + 1) + p) e
 
 -- A row that is left lies among the cells.
-pub row_inside : (v n row start : ℕ) → row < v → start ≡ cells row n → start + n < cells v n
-row_inside v n row start l e =
+pub row_inside : (v n row : ℕ) → row < v → cells row n + n < cells v n
+row_inside v n row l =
     let k = next_row row n in
     let h : cells (row + 1) n ≤ cells v n = mul-le-mul_right (n + 1) (omega arith) in
     omega arith

@@ -1,5 +1,7 @@
 -- The passes over a table before it is asked over: what they ask, and what they promise. Cells at positions below a limit are blanked. Assumes nothing.
-use Rattle.std.specs.Prelude.{Bool, true, false, List, ◌⊎◌, ◌≡◌, ℕ, ◌+◌, ◌*◌, ◌≤◌, ◌<◌, length, get_or, drop}
+use Rattle.std.specs.Prelude.{Bool, true, false, List, Result, Ok, Err, ◌⊎◌, ◌≡◌, ℕ, ◌+◌, ◌*◌, ◌≤◌, ◌<◌, length, get_or, drop}
+use Rattle.grammar.specs.declared.refusal.Refusal.{Refusal}
+use Rattle.grammar.specs.declared.refusal.Refusal.TheVariants.{Cell}
 use Rattle.schema.specs.Cells.{cell_at}
 use Rattle.schema.specs.Derivation.{Pair, ◌at◌}
 use Rattle.schema.specs.Table.{Within, cells, contents}
@@ -13,6 +15,11 @@ pub record PassReady (v n limit : ℕ) (T : List ℕ) : Type 0 where
   pub short : n ≤ 4096
   pub inside : limit ≤ n
   pub room : 2 * cells v n ≤ length T
+
+-- Refusal 19, where a test says so.
+abbrev pub refused_if : Bool → Result (Unit {0}) Refusal
+refused_if true = Err Cell
+refused_if false = Ok tt
 
 -- Where a test says so, so many cells from the number `start` on are blank.
 abbrev pub BlankIf : Bool → List ℕ → ℕ → ℕ → Type 0
@@ -38,6 +45,11 @@ pub record Looked (n limit : ℕ) (T : List ℕ) (start count : ℕ) (out : Bool
   pub says : out ≡ row_out n limit T start count
   pub low : first ≤ limit
   pub unchanged : (p : ℕ) → p < count → p < first → kept limit p (cell_at T (start + p)) ≡ cell_at T (start + p)
+
+-- Such a position, where no cell that stays is out of range; or refusal 19.
+abbrev pub Found : ℕ → ℕ → List ℕ → ℕ → ℕ → Result ℕ Refusal → Type 0
+Found n limit T start count (Ok first) = Looked n limit T start count false first
+Found n limit T start count (Err e) = (e ≡ Cell) × (row_out n limit T start count ≡ true)
 
 -- Such a position for each of v rows.
 pub record Firsts (v n limit : ℕ) (T firsts : List ℕ) : Type 0 where

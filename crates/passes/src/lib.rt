@@ -4,14 +4,15 @@
 // something to blank.
 #![tactic(auto)]
 
-ghost use Rattle.std.specs.Prelude.{cond, ◌&&◌, ◌≡◌, ◌+◌, ◌*◌, ◌≤◌, eqb, length};
+ghost use Rattle.std.specs.Prelude.{false, cond, ◌&&◌, ◌≡◌, ◌+◌, ◌*◌, ◌≤◌, eqb, length};
 ghost use Rattle.schema.specs.Cells.{cell_at, stored, HasCell};
 ghost use Rattle.schema.specs.Table.{contents};
 ghost use Rattle.kept.specs.Kept.{is_result, looks_below, retained};
 ghost use Rattle.kept.specs.Range.{out_of_range, cells_out};
-ghost use Rattle.passes.specs.Passes.{PassReady, BlankIf, EndBlankIf, Looked, FirstsUnless, Firsts, Unchanged, Keeps, Starts, StartsUnless};
+ghost use Rattle.passes.specs.Passes.{PassReady, BlankIf, EndBlankIf, Looked, Found, refused_if, FirstsUnless, Firsts, Unchanged, Keeps, Starts, StartsUnless};
 
 use cells::Cell;
+use grammar::refusal::Refusal;
 
 // How many cells are skipped at once.
 const BLOCK: usize = 16;
@@ -21,13 +22,6 @@ const NO_OUTCOME: u32 = 4;
 
 // For each row, a position before which the second pass has nothing to blank.
 type FirstPositions = [u32; 256];
-
-// What is found in a row: whether a retained cell is out of range, and a position before which nothing is blanked.
-#[derive(Drop)]
-struct Row {
-    out: bool,
-    first: u32,
-}
 
 // Is this the number of a success or a failure?
 fn is_result(cell: Cell) -> bool
@@ -40,7 +34,7 @@ fn is_result(cell: Cell) -> bool
 fn is_blank(cell: Cell) -> bool
     ensures { result ≡ (eqb cell.0 0 && eqb cell.1 0) }
 {
-    (cell.0 == Cell::BLANK.0) & (cell.1 == Cell::BLANK.1)
+    cell == Cell::BLANK
 }
 
 // Does this cell hold a result whose reach is below the limit?
@@ -66,10 +60,8 @@ fn block_blank(table: &[u32], start: usize) -> bool
     ensures { BlankIf result table.now start 16 }
 {
     let mut blank = true;
-    let mut i: usize = 0;
-    while i < BLOCK {
-        blank = blank & is_blank(Cell::load(table, start + i));
-        i += 1;
+    for i in 0..BLOCK {
+        blank &= is_blank(Cell::load(table, start + i));
     }
     blank
 }
@@ -85,8 +77,8 @@ fn end_blank(table: &[u32], start: usize, n: usize) -> bool
     block_blank(table, start + (n + 1 - BLOCK))
 }
 
-// Looks at the cells of a row from one position to another, with what was found before them. The row begins at a number. There is no branch in the loop
-// and the limit has 32 bits, so that the compiler tests several cells at once.
+// Looks at the cells of a row from one position to another: a position before which nothing is blanked, the one that was found before them or theirs; or
+// refusal 19. The row begins at a number. There is no branch in the loop and the limit has 32 bits, so that the compiler tests several cells at once.
 fn look(
     table: &[u32],
     start: usize,
@@ -94,80 +86,64 @@ fn look(
     to: usize,
     n: usize,
     limit: u32,
-    before: Row,
-) -> Row
-    requires { (n ≤ 4096) × (limit ≤ n) × (from ≤ to) × (to ≤ n + 1) × HasCell table.now (start + n) × Looked n limit table.now start from before.out before.first }
-    ensures { Looked n limit table.now start to result.out result.first }
+    first: u32,
+) -> Result<u32, Refusal>
+    requires { (n ≤ 4096) × (limit ≤ n) × (from ≤ to) × (to ≤ n + 1) × HasCell table.now (start + n) × Looked n limit table.now start from false first }
+    ensures { Found n limit table.now start to result }
 {
-    let mut out = before.out;
+    let mut out = false;
     let mut changes = false;
-    let mut position = from;
-    while position < to {
+    for position in from..to {
         let cell = Cell::load(table, start + position);
         let stays = !((position as u32) < limit) | looks_below(cell, limit);
-        out = out | (stays & out_of_range(cell, position as u32, n as u32));
-        changes = changes | (!stays & !is_blank(cell));
-        position += 1;
+        out |= stays & out_of_range(cell, position as u32, n as u32);
+        changes |= !stays & !is_blank(cell);
     }
-    if changes & ((from as u32) < before.first) {
-        return Row {
-            out,
-            first: from as u32,
-        };
+    if out {
+        return Err(Refusal::Cell);
     }
-    Row {
-        out,
-        first: before.first,
+    if changes {
+        return Ok(first.min(from as u32));
     }
+    Ok(first)
 }
 
 // Looks at a row, which begins at a number. What is left behind the last whole block is passed over where the row ends with as many blank cells as a block
 // has: rows are short, so that cells looked at one by one would cost more than the blocks.
-fn look_row(table: &[u32], start: usize, n: usize, limit: u32) -> Row
+fn look_row(table: &[u32], start: usize, n: usize, limit: u32) -> Result<u32, Refusal>
     requires { (n ≤ 4096) × (limit ≤ n) × HasCell table.now (start + n) }
-    ensures { Looked n limit table.now start (n + 1) result.out result.first }
+    ensures { Found n limit table.now start (n + 1) result }
 {
-    let mut row = Row {
-        out: false,
-        first: limit,
-    };
-    let mut at: usize = 0;
-    while at + BLOCK <= n + 1 {
+    let mut first = limit;
+    let blocks = (n + 1) / BLOCK;
+    for block in 0..blocks {
+        let at = BLOCK * block;
         if !block_blank(table, start + at) {
-            row = look(table, start, at, at + BLOCK, n, limit, row);
+            first = look(table, start, at, at + BLOCK, n, limit, first)?;
         }
-        at += BLOCK;
     }
     if end_blank(table, start, n) {
-        return row;
+        return Ok(first);
     }
-    look(table, start, at, n + 1, n, limit, row)
+    look(table, start, BLOCK * blocks, n + 1, n, limit, first)
 }
 
-// Refusal 19: is a cell that stays out of range? If none is, each row's first position is noted.
-fn retained_out(
+// Refusal 19, where a cell that stays is out of range. If none is, each row's first position is noted.
+fn note_firsts(
     table: &[u32],
     variables: u32,
     n: usize,
     limit: u32,
     firsts: &mut FirstPositions,
-) -> bool
+) -> Result<(), Refusal>
     requires { PassReady variables n limit table.now × (length firsts.old ≡ 256) }
-    ensures refuses { result ≡ cells_out variables n (retained limit n table.now) }
-    ensures notes { FirstsUnless result variables n limit table.now firsts.new }
+    ensures refuses { result ≡ refused_if (cells_out variables n (retained limit n table.now)) }
+    ensures notes { FirstsUnless (cells_out variables n (retained limit n table.now)) variables n limit table.now firsts.new }
 {
-    let mut row: u32 = 0;
-    let mut start: usize = 0;
-    while row < variables {
-        let found = look_row(table, start, n, limit);
-        if found.out {
-            return true;
-        }
-        firsts[row as usize] = found.first;
-        start += n + 1;
-        row += 1;
+    for row in 0..variables as usize {
+        firsts[row] = look_row(table, row * (n + 1), n, limit)?;
     }
-    false
+    Ok(())
 }
 
 // Refusal 19 of a call that blanks nothing: is any cell out of range?
@@ -176,7 +152,7 @@ pub fn cells_out(table: &[u32], variables: u32, n: usize) -> bool
     ensures { result ≡ cells_out variables n (contents n table.now) }
 {
     let mut firsts: FirstPositions = [0u32; 256];
-    retained_out(table, variables, n, 0, &mut firsts)
+    note_firsts(table, variables, n, 0, &mut firsts).is_err()
 }
 
 // The cell, blank unless it holds a result whose reach is below the limit.
@@ -203,10 +179,8 @@ fn retain_row(table: &mut [u32], start: usize, first: u32, limit: u32)
     requires { (first ≤ limit) × (2 * (start + limit) ≤ length table.old) × Unchanged limit table.old start first }
     ensures { Keeps limit start limit table.old table.new }
 {
-    let mut at = first as usize;
-    while at < limit as usize {
-        retain_cell(table, start + at, limit);
-        at += 1;
+    for position in first as usize..limit as usize {
+        retain_cell(table, start + position, limit);
     }
 }
 
@@ -215,26 +189,20 @@ fn retain_rows(table: &mut [u32], variables: u32, n: usize, limit: u32, firsts: 
     requires { PassReady variables n limit table.old × Firsts variables n limit table.old firsts.now }
     ensures { Starts variables n (retained limit n table.old) table.old table.new }
 {
-    let mut retained: u32 = 0;
-    let mut start: usize = 0;
-    while retained < variables {
-        retain_row(table, start, firsts[retained as usize], limit);
-        start += n + 1;
-        retained += 1;
+    for row in 0..variables as usize {
+        retain_row(table, row * (n + 1), firsts[row], limit);
     }
 }
 
-// Blanks the cells at positions below the limit, but for results whose reach is below it, and retains the others; or says that a retained one is out of
-// range, and leaves the table as it was.
-pub fn retain(table: &mut [u32], variables: u32, n: usize, limit: u32) -> bool
+// Blanks the cells at positions below the limit, but for results whose reach is below it, and retains the others; or refuses with 19, where a retained one
+// is out of range, and leaves the table as it was.
+pub fn retain(table: &mut [u32], variables: u32, n: usize, limit: u32) -> Result<(), Refusal>
     requires { PassReady variables n limit table.old }
-    ensures refuses { result ≡ cells_out variables n (retained limit n table.old) }
-    ensures retains { StartsUnless result variables n (retained limit n table.old) table.old table.new }
+    ensures refuses { result ≡ refused_if (cells_out variables n (retained limit n table.old)) }
+    ensures retains { StartsUnless (cells_out variables n (retained limit n table.old)) variables n (retained limit n table.old) table.old table.new }
 {
     let mut firsts: FirstPositions = [0u32; 256];
-    let out = retained_out(table, variables, n, limit, &mut firsts);
-    if !out {
-        retain_rows(table, variables, n, limit, &firsts);
-    }
-    out
+    note_firsts(table, variables, n, limit, &mut firsts)?;
+    retain_rows(table, variables, n, limit, &firsts);
+    Ok(())
 }

@@ -1,9 +1,5 @@
-use Prim.Native.Nat.{◌-◌, ◌≤◌}
 use Rattle.passes.proofs.Looking.{Looking}
 use Rattle.passes.proofs.look.Given as goal
 
 abbrev pub invariant-loop-position : goal.invariant-loop-position
-invariant-loop-position l = (l.position ≤ l.to) × Looking l.n l.limit l.table l.start l.from l.position l.out l.changes
-
-abbrev pub decreases-loop-position : goal.decreases-loop-position
-decreases-loop-position l = l.to - l.position
+invariant-loop-position l = Looking l.n l.limit l.table l.start l.from l.position l.out l.changes

@@ -1,9 +1,6 @@
-use Prim.Native.Nat.{◌-◌}
-use Rattle.passes.proofs.Blanking.{Blanking}
+use Rattle.kept.specs.Kept.{retained}
+use Rattle.passes.specs.Passes.{Starts}
 use Rattle.passes.proofs.retain_rows.Given as goal
 
-abbrev pub invariant-loop-retained : goal.invariant-loop-retained
-invariant-loop-retained l = Blanking l.variables l.n l.limit l.initial.table l.table l.retained l.start
-
-abbrev pub decreases-loop-retained : goal.decreases-loop-retained
-decreases-loop-retained l = l.variables - l.retained
+abbrev pub invariant-loop-row : goal.invariant-loop-row
+invariant-loop-row l = Starts l.row l.n (retained l.limit l.n l.initial.table) l.initial.table l.table
