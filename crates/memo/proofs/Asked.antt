@@ -4,14 +4,13 @@ use mathlib.Core.List.{List}
 use Prim.Native.Nat.{ℕ, ◌-◌, ◌*◌, ◌≤◌, ◌<◌}
 use native.Mathlib.Omega.{arith}
 use lib.ListN.{length, drop}
-use Rattle.grammar.specs.Refusal.{Checked}
 use Rattle.grammar.specs.Rule.{Rule}
 use Rattle.schema.specs.Cells.{held_at, reach_at}
 use Rattle.schema.specs.Derivation.{◌at◌}
 use Rattle.schema.specs.Table.{cell, cells, decided}
 use Rattle.schema.proofs.Cell.{cell_below}
 use Rattle.finish.specs.Reply.{Reply, reply}
-use Rattle.memo.specs.Answer.{Says}
+use Rattle.memo.specs.Answer.{Answers}
 use Rattle.memo.specs.Ask.{AskReady}
 use Rattle.walk.specs.Over.{OverReady, Over}
 use Rattle.walk.proofs.Cleared.{cleared, cleared_length, cleared_held, cleared_reach, cleared_later, blank_right}
@@ -45,28 +44,25 @@ module _ {rule : ℕ → Rule} {s : List ℕ} {v A p : ℕ} {T W : List ℕ} (r 
     in_range = λ i l. let z = blank_at i l in omega arith;
   }
 
-  -- What is said over it: every decided cell is new.
-  pub asked : {T₂ W₁ : List ℕ} (a : Checked Reply) → Over rule v s (A at p) T₁ T₂ W W₁ a → Says rule v s (A at p) T T₂ W W₁ a
-  asked {T₂} {W₁} a o =
+  -- What is answered over it: every decided cell is new.
+  pub asked : {T₂ W₁ : List ℕ} {a : Reply} → Over rule v s (A at p) T₁ T₂ W W₁ a → Answers rule v s (A at p) T T₂ W W₁ a
+  asked {T₂} {W₁} o =
       let k = o.from_right (blank_right rule s v T₁ blank_at) in
       let z = decided_zero T₁ N blank_at in
-      let all : decided N T₂ - decided N T₁ ≡ decided N T₂ = omega arith in (
-        o.replies,
-        o.accepts,
-        record {
-          outcome = k.outcome;
-          named = k.named;
-          has = k.has;
-          names = k.names;
-          says = k.says ∙ ap (reply k.outcome k.named) all;
-          leaves = record {
-            holds = k.leaves.holds;
-            others = λ B q w d. k.leaves.others B q w (λ h. d (h ∙ blank_at (cell (length s) (B at q)) (cell_below v (length s) (B at q) w)));
-            others_reach = λ B q w d. k.leaves.others_reach B q w (λ h. d (h ∙ blank_reach (cell (length s) (B at q)) (cell_below v (length s) (B at q) w)));
-            later = o.later ∙ ap (drop (2 * N)) e ∙ cleared_later (2 * N) T;
-            size = o.size ∙ blank_length;
-          };
-          beyond = o.beyond;
-          size = o.work_size;
-        },
-      )
+      let all : decided N T₂ - decided N T₁ ≡ decided N T₂ = omega arith in
+      record {
+        outcome = k.outcome;
+        named = k.named;
+        has = k.has;
+        names = k.names;
+        says = k.says ∙ ap (reply k.outcome k.named) all;
+        leaves = record {
+          holds = k.leaves.holds;
+          others = λ B q w d. k.leaves.others B q w (λ h. d (h ∙ blank_at (cell (length s) (B at q)) (cell_below v (length s) (B at q) w)));
+          others_reach = λ B q w d. k.leaves.others_reach B q w (λ h. d (h ∙ blank_reach (cell (length s) (B at q)) (cell_below v (length s) (B at q) w)));
+          later = o.later ∙ ap (drop (2 * N)) e ∙ cleared_later (2 * N) T;
+          size = o.size ∙ blank_length;
+        };
+        beyond = o.beyond;
+        size = o.work_size;
+      }

@@ -6,6 +6,8 @@ use Prim.Native.Nat.{ℕ, ◌*◌, ◌≤◌}
 use lib.ListN.{length}
 use borrow.Author.Tests.{le-ltb}
 use Rattle.columns.specs.Column.{leading, column, row, digits_after, number, field, fields}
+use Rattle.std.specs.Prelude.{Result}
+use Rattle.grammar.specs.declared.refusal.Refusal.{Refusal}
 use Rattle.grammar.specs.Refusal.{Checked, refused, accepted}
 use Rattle.grammar.specs.Sheet.{Grammar, grammar_of, line_at}
 use Rattle.grammar.specs.Printing.{text}
@@ -32,7 +34,7 @@ module _ (s input : List ℕ) (A p : ℕ) (table work : List ℕ) where
     within : Within g.variables (length input) A p
     within = handed_pair s call g accepts (A at p) refl
 
-    module _ (table' work' : List ℕ) (r : Answer) (promise : QuestionPromise s input A p table table' work work' r) where
+    module _ (table' work' : List ℕ) (r : Result Answer Refusal) (promise : QuestionPromise s input A p table table' work work' r) where
       -- What is not refused is answered.
       pub question_answers : Says g.rule g.variables input (A at p) table table' work work' (told r)
       question_answers = subst (λ (o : Checked Grammar). Replies o input (A at p) table table' work work' (told r)) accepts promise
@@ -49,7 +51,7 @@ module _ (s input : List ℕ) (A p : ℕ) (table work : List ℕ) where
       )
 
   -- One result only: the same answer and the same table.
-  pub one_result : (table' table'' work' work'' : List ℕ) (r t : Answer) → QuestionPromise s input A p table table' work work' r
+  pub one_result : (table' table'' work' work'' : List ℕ) (r t : Result Answer Refusal) → QuestionPromise s input A p table table' work work' r
       → QuestionPromise s input A p table table'' work work'' t → (told r ≡ told t) × (table' ≡ table'')
   one_result table' table'' work' work'' r t one other = by_sheet (handed s call) refl one other
     where
@@ -76,7 +78,7 @@ case_accepted c m table work e f =
     question_follows s c.input 1 0 table work (accepted (grammar_of s)) plain ∙ rw (le-ltb table _ e, le-ltb work _ f)
 
 -- and answered as document 01 says.
-pub case_answered : (c : Case) → Memᴰ c cases → (table table' work work' : List ℕ) (r : Answer)
+pub case_answered : (c : Case) → Memᴰ c cases → (table table' work work' : List ℕ) (r : Result Answer Refusal)
     → 2 * cells (grammar_of (text c.lines)).variables (length c.input) ≤ length table
     → cells (grammar_of (text c.lines)).variables (length c.input) ≤ length work
     → QuestionPromise (text c.lines) c.input 1 0 table table' work work' r → told r ≡ accepted (reply c.outcome c.named c.count)
@@ -97,7 +99,7 @@ unfolding text leading column row digits_after number field fields line_at
 cells_a = refl
 
 -- Case a: "H, `-6.`: success ending 3, 5 cells".
-pub case_a : (table table' work work' : List ℕ) (r : Answer) → 48 ≤ length table → 24 ≤ length work
+pub case_a : (table table' work work' : List ℕ) (r : Result Answer Refusal) → 48 ≤ length table → 24 ≤ length work
     → QuestionPromise (text sheet_h) (45 ∷ 54 ∷ 46 ∷ []) 1 0 table table' work work' r → told r ≡ accepted (reply (result (success 3)) (0 at 0) 5)
 unfolding cases
 case_a table table' work work' r e f promise =
@@ -109,7 +111,7 @@ unfolding text leading column row digits_after number field fields line_at
 cells_g = refl
 
 -- Case g: "Rule 1 = 1(1,1), empty entry: loop, named (1, 0), 1 cell."
-pub case_g : (table table' work work' : List ℕ) (r : Answer) → 2 ≤ length table → 1 ≤ length work
+pub case_g : (table table' work work' : List ℕ) (r : Result Answer Refusal) → 2 ≤ length table → 1 ≤ length work
     → QuestionPromise (text (header 1 ∷ (1 ∷ 4 ∷ 1 ∷ 1 ∷ 1 ∷ []) ∷ [])) [] 1 0 table table' work work' r → told r ≡ accepted (reply loop (1 at 0) 1)
 unfolding cases
 case_g table table' work work' r e f promise =

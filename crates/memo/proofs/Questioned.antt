@@ -1,66 +1,77 @@
--- The question, from its admission on. Assumes nothing.
-use mathlib.Core.Path.{◌≡◌, sym, ◌∙◌}
+-- The admission of a question over slices, and the question from it on. Assumes nothing.
+use mathlib.Core.Path.{◌≡◌, refl, sym, ap, ◌∙◌}
 use mathlib.Core.Bool.{Bool, true, false, cond, ◌||◌}
 use mathlib.Core.List.{List}
 use Prim.Native.Nat.{ℕ, ◌*◌, ◌≤◌}
 use lib.Dec.{ltb}
 use lib.ListN.{length}
+use Rattle.std.specs.Prelude.{Result, Ok, Err}
+use Rattle.grammar.specs.Numbers.{number_of, line_of}
+use Rattle.grammar.specs.Promise.{told}
 use Rattle.grammar.specs.Refusal.{Checked, refused, accepted}
-use Rattle.grammar.specs.Sheet.{sheet}
 use Rattle.grammar.specs.Words.{rule_in}
+use Rattle.grammar.specs.declared.refusal.Refusal.{Refusal}
+use Rattle.grammar.specs.declared.refusal.Refusal.TheVariants.{Room}
 use Rattle.grammar.specs.declared.sheet.Grammar.{Grammar as Line}
-use Rattle.grammar.specs.declared.sheet.Sheet.{Sheet}
-use Rattle.grammar.specs.declared.sheet.Sheet.TheVariants.{Read, Refused}
-use Rattle.rules.specs.Admission.{Admission}
+use Rattle.grammar.proofs.Told.{Reads, line_says_law}
+use Rattle.rules.specs.Admission.{Admits, Admission}
+use Rattle.rules.proofs.Admitted.{admits}
 use Rattle.schema.specs.Derivation.{◌at◌}
 use Rattle.schema.specs.Handed.{handed, asked, question_of}
 use Rattle.schema.specs.Table.{cells}
-use Rattle.schema.proofs.Tested.{slices_out, question_follows}
-use Rattle.rules.proofs.Admitted.{Admitted, admitted, not_admitted}
-use Rattle.schema.proofs.Handed.{handed_sheet}
+use Rattle.schema.proofs.Handed.{handed_pair}
+use Rattle.schema.proofs.Tested.{question_follows}
 use Rattle.finish.specs.Reply.{Reply}
-use Rattle.memo.specs.Answer.{Replies, Says}
+use Rattle.memo.specs.Answer.{Answers, Replies}
 use Rattle.memo.specs.Ask.{AskReady}
-use Rattle.memo.proofs.Ready.{few_variables, ready, says_of}
+use Rattle.memo.proofs.Ready as ready
+use Rattle.memo.proofs.Ready.{not_admitted, admitted, of_grammar}
 
-module _ {s input : List ℕ} {A p : ℕ} {before after : List ℕ} {r : Sheet} (admission : Admission s input A p before after r) (table work : List ℕ) where
-  -- Refused before the slices are looked at.
-  pub refused_first : {table' work' : List ℕ} {x l : ℕ} {t : Checked Reply} → r ≡ Refused x l → t ≡ refused x l → table' ≡ table → work' ≡ work
-      → Replies (handed s (question_of input (A at p) (length table) (length work))) input (A at p) table table' work work' t
-  refused_first {x = x} {l = l} e t k m =
-      let h = not_admitted s input A p before after r admission x l e in
-      rw (question_follows s input A p (length table) (length work) (refused x l) h) (t, k, m)
+-- ---- Its admission: what is refused before the slices are looked at, then 10.
 
-  module _ {l : Line} (e : r ≡ Read l) where
-    pub read : Admitted s input A p after l
-    read = admitted s input A p before after r admission l e
+module _ {s input : List ℕ} {A p : ℕ} {before after : List ℕ} {r : Result Line Refusal} (admission : Admission s input A p before after r) (table work : ℕ) where
+  pub refused_first : {t : Result Line Refusal} {n : Refusal} → r ≡ Err n → t ≡ Err n → Admits s (question_of input (A at p) table work) before after t
+  refused_first {t} {n} e f =
+      admits s (question_of input (A at p) table work) before after t admission.stores
+      (question_follows s input A p table work (refused (number_of n) (line_of n)) (not_admitted s (asked input (A at p)) admission e)) (ap told f)
 
-    accepts : sheet s ≡ accepted read.grammar
-    accepts = handed_sheet s (asked input (A at p)) read.grammar read.accepts
+  module _ {l : Line} (e : r ≡ Ok l) where
+    read : Reads (handed s (asked input (A at p))) l
+    read = admitted s (asked input (A at p)) admission e
 
-    pub follows : handed s (question_of input (A at p) (length table) (length work))
-        ≡ cond (slices_out s input A p (length table) (length work) read.grammar) (refused 10 0) (accepted read.grammar)
-    follows = question_follows s input A p (length table) (length work) (accepted read.grammar) read.accepts
+    pub few_short : (l.variables ≤ 256) × (length input ≤ 4096)
+    few_short = ready.few_short s (asked input (A at p)) admission e
 
-    pub in_bounds : (l.variables ≤ 256) × (length input ≤ 4096)
-    in_bounds = (few_variables s after read.grammar accepts read.variables_are read.rules_are, read.input_short)
+    module _ {small : Bool} (tested : small ≡ (ltb table (2 * cells l.variables (length input)) || ltb work (cells l.variables (length input)))) where
+      follows : handed s (question_of input (A at p) table work) ≡ cond small (refused 10 0) (accepted read.grammar)
+      follows = question_follows s input A p table work (accepted read.grammar) read.accepts ∙ rw (read.variables_are, tested)
 
-    module _ {small : Bool} (tested : small ≡ (ltb (length table) (2 * cells l.variables (length input)) || ltb (length work) (cells l.variables (length input)))) where
-      pub tested_is : slices_out s input A p (length table) (length work) read.grammar ≡ small
-      tested_is = rw read.variables_are (sym tested)
+      pub refused_small : small ≡ true → Admits s (question_of input (A at p) table work) before after (Err Room)
+      refused_small h = admits s (question_of input (A at p) table work) before after (Err Room) {o = refused 10 0} admission.stores (follows ∙ rw h) refl
 
-      -- Refused for a slice that is too small.
-      pub refused_small : {table' work' : List ℕ} {t : Checked Reply} → small ≡ true → t ≡ refused 10 0 → table' ≡ table → work' ≡ work
-          → Replies (handed s (question_of input (A at p) (length table) (length work))) input (A at p) table table' work work' t
-      refused_small h t k m = rw (follows, tested_is, h) (t, k, m)
+      pub admitted_then : small ≡ false → Admits s (question_of input (A at p) table work) before after (Ok l)
+      admitted_then h = admits s (question_of input (A at p) table work) before after (Ok l) {o = accepted read.grammar} admission.stores (follows ∙ rw h) (sym (line_says_law read))
 
-      -- What asking is handed.
-      pub ask_ready : small ≡ false → AskReady (rule_in after) input l.variables A p table work
-      ask_ready h =
-          ready s after read.grammar accepts read.variables_are read.rules_are input table work A p read.input_short read.pair_within (sym tested ∙ h)
+-- ---- The question.
 
-      -- The answer.
-      pub replies : {table' work' : List ℕ} {t : Checked Reply} → small ≡ false → Says (rule_in after) l.variables input (A at p) table table' work work' t
-          → Replies (handed s (question_of input (A at p) (length table) (length work))) input (A at p) table table' work work' t
-      replies {table'} {work'} {t} h a =
-          rw (follows, tested_is, h) (says_of s after read.grammar accepts read.variables_are read.rules_are input (A at p) table table' work work' t a)
+module _ (s input : List ℕ) (A p : ℕ) (table work : List ℕ) {before after : List ℕ} {r : Result Line Refusal}
+    (admission : Admits s (question_of input (A at p) (length table) (length work)) before after r) where
+  -- Refused,
+  pub refused_question : {n : Refusal} {t : Checked Reply} → r ≡ Err n → t ≡ refused (number_of n) (line_of n)
+      → Replies (handed s (question_of input (A at p) (length table) (length work))) input (A at p) table table work work t
+  refused_question e f = rw (not_admitted s (question_of input (A at p) (length table) (length work)) admission e) (f, refl, refl)
+
+  module _ {l : Line} (e : r ≡ Ok l) where
+    -- or asked,
+    pub ask_ready : AskReady (rule_in after) input l.variables A p table work
+    ask_ready =
+        let read = admitted s (question_of input (A at p) (length table) (length work)) admission e in
+        ready.ask_ready s (question_of input (A at p) (length table) (length work)) admission e table work A p refl
+        (handed_pair s (question_of input (A at p) (length table) (length work)) read.grammar read.accepts (A at p) refl)
+
+    -- and answered.
+    pub replies : {table' work' : List ℕ} {a : Reply} → Answers (rule_in after) l.variables input (A at p) table table' work work' a
+        → Replies (handed s (question_of input (A at p) (length table) (length work))) input (A at p) table table' work work' (accepted a)
+    replies {table'} {work'} {a} answers =
+        rw (admitted s (question_of input (A at p) (length table) (length work)) admission e).accepts
+        (a, refl, of_grammar s (question_of input (A at p) (length table) (length work)) admission e (λ f v B. Answers f v input (A at p) table table' work work' a) answers)

@@ -1,46 +1,71 @@
--- From a grammar in the array to what asking is handed, and back to what is said of the grammar. Assumes nothing.
-use mathlib.Core.Path.{◌≡◌, sym, subst}
-use mathlib.Core.Bool.{false, ◌||◌}
+-- What the admission of a call that is handed slices gives its caller: the refusal; or what asking is handed, and what is said of the array's rules said of
+-- the grammar. Assumes nothing.
 use mathlib.Core.List.{List}
-use Prim.Native.Nat.{ℕ, ◌*◌, ◌≤◌}
-use lib.Dec.{ltb}
+use mathlib.Core.Option.{some}
+use mathlib.Core.Path.{◌≡◌, sym, subst}
+use Prim.Native.Nat.{ℕ, ◌≤◌}
 use lib.ListN.{length}
-use borrow.Author.Tests.{ltb-false}
-use Rattle.grammar.specs.Refusal.{Checked, accepted}
+use Rattle.std.specs.Prelude.{Result, Ok, Err}
+use Rattle.grammar.specs.Numbers.{number_of, line_of}
+use Rattle.grammar.specs.Refusal.{refused, accepted}
 use Rattle.grammar.specs.Rule.{Rule}
-use Rattle.grammar.specs.Sheet.{Grammar, sheet}
+use Rattle.grammar.specs.Sheet.{sheet}
 use Rattle.grammar.specs.Words.{rule_in}
+use Rattle.grammar.specs.declared.refusal.Refusal.{Refusal}
+use Rattle.grammar.specs.declared.sheet.Grammar.{Grammar as Line}
 use Rattle.grammar.proofs.Accepted.{grammar_in_range}
-use Rattle.schema.specs.Derivation.{Pair}
+use Rattle.grammar.proofs.Told.{Reads, told_refused, told_read}
+use Rattle.rules.specs.Admission.{Admits}
+use Rattle.rules.proofs.Admitted.{rules_admitted}
 use Rattle.schema.specs.Closed.{Closed}
-use Rattle.schema.specs.Table.{Within, cells}
-use Rattle.grammar.proofs.Fitting.{neither_true}
+use Rattle.schema.specs.Handed.{Handed, handed}
+use Rattle.schema.specs.Table.{Within}
+use Rattle.schema.proofs.Handed.{handed_sheet, handed_input, handed_slices}
 use Rattle.schema.proofs.SheetClosed.{sheet_closed}
-use Rattle.finish.specs.Reply.{Reply}
-use Rattle.memo.specs.Answer.{Says}
 use Rattle.memo.specs.Ask.{AskReady}
 
-module _ (s array : List ℕ) {v : ℕ} (g : Grammar) (accepts : sheet s ≡ accepted g) (variables_are : g.variables ≡ v) (rules_are : rule_in array ≡ g.rule) where
-  pub few_variables : v ≤ 256
-  few_variables = subst (λ (n : ℕ). n ≤ 256) variables_are (grammar_in_range s g accepts).1
+module _ (s : List ℕ) (h : Handed) {before after : List ℕ} {r : Result Line Refusal} (admission : Admits s h before after r) where
+  -- The refusal,
+  pub not_admitted : {n : Refusal} → r ≡ Err n → handed s h ≡ refused (number_of n) (line_of n)
+  not_admitted {n} e = told_refused (handed s h) r n admission.says e
 
-  -- What asking is handed, once the slices are found long enough.
-  pub ready : (input table work : List ℕ) (A p : ℕ) → length input ≤ 4096 → Within g.variables (length input) A p
-      → (ltb (length table) (2 * cells v (length input)) || ltb (length work) (cells v (length input))) ≡ false → AskReady (rule_in array) input v A p table work
-  ready input table work A p short w h =
-      let z = neither_true (ltb (length table) (2 * cells v (length input))) (ltb (length work) (cells v (length input))) h in
-      record {
-        few = few_variables;
-        short = short;
-        closed = subst (λ (n : ℕ). Closed n (rule_in array)) variables_are (subst (Closed g.variables) (sym rules_are) (sheet_closed s g accepts));
-        within = subst (λ (n : ℕ). Within n (length input) A p) variables_are w;
-        room = ltb-false (length table) (2 * cells v (length input)) z.0;
-        work_room = ltb-false (length work) (cells v (length input)) z.1;
-      }
+  module _ {l : Line} (e : r ≡ Ok l) where
+    -- or the accepted grammar,
+    pub admitted : Reads (handed s h) l
+    admitted = told_read (handed s h) r l admission.says e
 
-  -- What is said of the array's rules is said of the grammar's.
-  pub says_of : (input : List ℕ) (x : Pair) (table table' work work' : List ℕ) (t : Checked Reply)
-      → Says (rule_in array) v input x table table' work work' t → Says g.rule g.variables input x table table' work work' t
-  says_of input x table table' work work' t a =
-      subst (λ (n : ℕ). Says g.rule n input x table table' work work' t) (sym variables_are)
-      (subst (λ (f : ℕ → Rule). Says f v input x table table' work work' t) rules_are a)
+    reads : sheet s ≡ accepted admitted.grammar
+    reads = handed_sheet s h admitted.grammar admitted.accepts
+
+    rules_are : rule_in after ≡ admitted.grammar.rule
+    rules_are = rules_admitted s h before after r admission admitted.grammar admitted.accepts
+
+    -- of 256 variables at most, on a short input,
+    pub few_short : (l.variables ≤ 256) × (length h.input ≤ 4096)
+    few_short = (
+      subst (λ (n : ℕ). n ≤ 256) admitted.variables_are (grammar_in_range s admitted.grammar reads).1,
+      handed_input s h admitted.grammar admitted.accepts,
+    )
+
+    -- which may be asked over the slices,
+    pub ask_ready : (table work : List ℕ) (A p : ℕ) → h.slices ≡ some (length table, length work) → Within admitted.grammar.variables (length h.input) A p
+        → AskReady (rule_in after) h.input l.variables A p table work
+    ask_ready table work A p slices w =
+        let g = admitted.grammar in
+        let room = handed_slices s h g admitted.accepts (length table) (length work) slices in
+        let closed : Closed g.variables (rule_in after) = subst (Closed g.variables) (sym rules_are) (sheet_closed s g reads) in
+        rw (← admitted.variables_are) (record {
+          few = (grammar_in_range s g reads).1;
+          short = handed_input s h g admitted.accepts;
+          closed = closed;
+          within = w;
+          room = room.0;
+          work_room = room.1;
+        })
+
+    -- and of which holds what holds of the array's rules and of line 1.
+    pub of_grammar : (P : (ℕ → Rule) → ℕ → ℕ → Type 0) → P (rule_in after) l.variables l.start
+        → P admitted.grammar.rule admitted.grammar.variables admitted.grammar.start
+    of_grammar P h =
+        subst (λ (A : ℕ). P admitted.grammar.rule admitted.grammar.variables A) (sym admitted.start_is)
+        (subst (λ (n : ℕ). P admitted.grammar.rule n l.start) (sym admitted.variables_are) (subst (λ (f : ℕ → Rule). P f l.variables l.start) rules_are h))

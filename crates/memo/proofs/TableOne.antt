@@ -9,7 +9,7 @@ use Rattle.grammar.specs.Rule.{Rule}
 use Rattle.schema.specs.Derivation.{Pair, ◌at◌, Outcome}
 use Rattle.schema.specs.Examined.{Reaches}
 use Rattle.schema.specs.Reached.{Reached}
-use Rattle.schema.specs.Table.{Within, cells, code, held, reach, contents, Table}
+use Rattle.schema.specs.Table.{Within, cells, code, held, reach, Table}
 use Rattle.schema.proofs.Examined.{reaches_one}
 use Rattle.schema.proofs.Laws.{has_one}
 use Rattle.schema.proofs.SameCells.{same_table}

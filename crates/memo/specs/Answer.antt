@@ -1,8 +1,9 @@
 -- Document 01, "The table engine": the promise of a question. Assumes nothing.
-use Rattle.std.specs.Prelude.{List, ◌≡◌, ℕ, length, drop}
+use Rattle.std.specs.Prelude.{List, ◌≡◌, ℕ, length, drop, Result}
 use Rattle.grammar.specs.Refusal.{Checked, refused, accepted}
 use Rattle.grammar.specs.Rule.{Rule}
 use Rattle.grammar.specs.Sheet.{Grammar}
+use Rattle.grammar.specs.declared.refusal.Refusal.{Refusal}
 use Rattle.schema.specs.Derivation.{Pair, ◌at◌, Outcome, Has}
 use Rattle.schema.specs.Reached.{Named}
 use Rattle.schema.specs.Table.{cells, decided, blanked, Table}
@@ -32,6 +33,6 @@ Replies (refused number line) input x table table' work work' r = (r ≡ refused
 Replies (accepted g) input x table table' work work' r = Says g.rule g.variables input x table table' work work' r
 
 -- The promise of a question.
-abbrev pub QuestionPromise : List ℕ → List ℕ → ℕ → ℕ → List ℕ → List ℕ → List ℕ → List ℕ → Answer → Type 0
+abbrev pub QuestionPromise : List ℕ → List ℕ → ℕ → ℕ → List ℕ → List ℕ → List ℕ → List ℕ → Result Answer Refusal → Type 0
 QuestionPromise sheet input A p table table' work work' r =
     Replies (handed sheet (question_of input (A at p) (length table) (length work))) input (A at p) table table' work work' (told r)

@@ -5,13 +5,16 @@ ghost use Rattle.std.specs.Prelude.{◌||◌, ◌≡◌, ◌*◌, ◌≤◌, ltb
 ghost use Rattle.grammar.specs.Words.{rule_in};
 ghost use Rattle.schema.specs.Derivation.{◌at◌};
 ghost use Rattle.schema.specs.Table.{cells};
-ghost use Rattle.finish.specs.Reply.{told};
-ghost use Rattle.memo.specs.Answer.{Says, QuestionPromise};
+ghost use Rattle.schema.specs.Handed.{question_of};
+ghost use Rattle.rules.specs.Admission.{Admits};
+ghost use Rattle.finish.specs.Reply.{reply_of};
+ghost use Rattle.memo.specs.Answer.{Answers, QuestionPromise};
 ghost use Rattle.memo.specs.Ask.{AskReady};
 
 use cells::blank;
 use finish::Answer;
-use grammar::sheet::{Rules, Sheet};
+use grammar::refusal::Refusal;
+use grammar::sheet::{Grammar, Rules};
 use rules::admit;
 use walk::ask_over;
 
@@ -26,7 +29,7 @@ pub fn ask(
     work: &mut [u32],
 ) -> Answer
     requires { AskReady (rule_in rules.now) input.now variables variable position table.old work.old }
-    ensures { Says (rule_in rules.now) variables input.now (variable at position) table.old table.new work.old work.new (told result) }
+    ensures { Answers (rule_in rules.now) variables input.now (variable at position) table.old table.new work.old work.new (reply_of result) }
 {
     blank(table, 2 * (variables as usize * (input.len() + 1)));
     ask_over(rules, input, variables, variable, position, table, work)
@@ -38,10 +41,26 @@ pub fn too_small(variables: u32, n: usize, table: usize, work: usize) -> bool
     ensures { result ≡ (ltb table (2 * cells variables n) || ltb work (cells variables n)) }
 {
     let size = variables as usize * (n + 1);
-    if table < 2 * size {
-        return true;
+    table < 2 * size || work < size
+}
+
+// The grammar of a sheet, its rules in the lent array, for a question over slices of these lengths; or the first of refusals 1 to 6 and 8 to 10.
+pub fn admit_question(
+    sheet: &[u8],
+    input: &[u8],
+    variable: u32,
+    position: u32,
+    table: usize,
+    work: usize,
+    rules: &mut Rules,
+) -> Result<Grammar, Refusal>
+    ensures { Admits sheet.now (question_of input.now (variable at position) table work) rules.old rules.new result }
+{
+    let grammar = admit(sheet, input, variable, position, rules)?;
+    if too_small(grammar.variables, input.len(), table, work) {
+        return Err(Refusal::Room);
     }
-    work < size
+    Ok(grammar)
 }
 
 // A question about a variable at a position of the input, over a lent table and a lent work slice.
@@ -52,19 +71,26 @@ pub fn question(
     position: u32,
     table: &mut [u32],
     work: &mut [u32],
-) -> Answer
+) -> Result<Answer, Refusal>
     ensures { QuestionPromise sheet.now input.now variable position table.old table.new work.old work.new result }
 {
     let mut rules: Rules = [0u32; 256];
-    let read = admit(sheet, input, variable, position, &mut rules);
-    match read {
-        Sheet::Refused(number, line) => Answer::Refused(number, line),
-        Sheet::Read(grammar) => {
-            let variables = grammar.variables;
-            if too_small(variables, input.len(), table.len(), work.len()) {
-                return Answer::Refused(10, 0);
-            }
-            ask(&rules, input, variables, variable, position, table, work)
-        }
-    }
+    let grammar = admit_question(
+        sheet,
+        input,
+        variable,
+        position,
+        table.len(),
+        work.len(),
+        &mut rules,
+    )?;
+    Ok(ask(
+        &rules,
+        input,
+        grammar.variables,
+        variable,
+        position,
+        table,
+        work,
+    ))
 }

@@ -1,9 +1,8 @@
 use Rattle.memo.proofs.Asked.{may_ask, asked}
-use borrow.Author.Rules.{rules}
 use Rattle.memo.proofs.ask.Goals as goal
 
 pub ask_over-requires : goal.ask_over-requires
 ask_over-requires c = may_ask c.requires c.blank.ensures
 
 pub returns : goal.returns
-returns c = asked c.requires c.blank.ensures _ c.ask_over.ensures
+returns c = asked c.requires c.blank.ensures c.ask_over.ensures

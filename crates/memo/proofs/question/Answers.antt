@@ -1,37 +1,20 @@
-use Rattle.memo.proofs.Questioned.{refused_first, in_bounds, refused_small, ask_ready, replies}
-use mathlib.Core.Path.{refl}
-use borrow.Author.Rules.{rules}
+use mathlib.Core.Path.{ap}
+use Rattle.grammar.proofs.HandedOn.{handed_on}
+use Rattle.finish.specs.Reply.{told}
+use Rattle.memo.proofs.Questioned.{refused_question, ask_ready, replies}
 use Rattle.memo.proofs.question.Goals as goal
-
-pub too_small-requires : goal.too_small-requires
-too_small-requires c =
-    let a = c.args in
-    in_bounds c.admit-read.ensures a.table.now a.work.now c.in-Read.is
-
-pub returns-then-too_small : goal.returns-then-too_small
-returns-then-too_small c =
-    let m = c.admit-read in
-    let a = c.args in
-    refused_small m.ensures a.table.now a.work.now c.in-Read.is c.too_small.ensures c.if-too_small.true refl refl refl
 
 pub ask-requires : goal.ask-requires
 ask-requires c =
-    let m = c.admit-read in
-    ask_ready m.ensures _ _ c.in-Read.is c.too_small.ensures c.if-too_small.false
-
-pub returns-in-Refused : goal.returns-in-Refused
-returns-in-Refused c =
-    let m = c.admit-read in
     let a = c.args in
-    refused_first m.ensures a.table.now a.work.now c.in-Refused.is refl refl refl
+    ask_ready a.sheet.now a.input.now a.variable a.position a.table.now a.work.now c.admit_question.ensures c.in_ok-grammar.was
 
-pub shape_of-table : goal.shape_of-table
-shape_of-table c = c.ask.ensures.2.leaves.size
+pub returns-in_err-grammar : goal.returns-in_err-grammar
+returns-in_err-grammar c =
+    let a = c.args in
+    refused_question a.sheet.now a.input.now a.variable a.position a.table.now a.work.now c.admit_question.ensures c.in_err-grammar.was (ap told (handed_on c.from_residual.ensures.1))
 
-pub shape_of-work : goal.shape_of-work
-shape_of-work c = c.ask.ensures.2.size
-
-pub returns-else-too_small : goal.returns-else-too_small
-returns-else-too_small c =
-    let m = c.admit-read in
-    replies m.ensures _ _ c.in-Read.is c.too_small.ensures c.if-too_small.false c.ask.ensures
+pub returns : goal.returns
+returns c =
+    let a = c.args in
+    replies a.sheet.now a.input.now a.variable a.position a.table.now a.work.now c.admit_question.ensures c.in_ok-grammar.was c.ask.ensures
