@@ -1,45 +1,45 @@
 -- The verdict: its tests, from the reading of its sheet on, and the answer to what they admit. Assumes nothing.
-use mathlib.Core.Path.{◌≡◌, refl, sym, ◌∙◌, subst}
+use mathlib.Core.Path.{◌≡◌, refl, sym, ap, ◌∙◌, subst}
 use mathlib.Core.Bool.{Bool, cond, ◌||◌}
 use mathlib.Core.List.{List}
 use Prim.Native.Nat.{ℕ, ◌*◌, ◌≤◌}
 use lib.Dec.{ltb}
 use lib.ListN.{length}
-use borrow.Author.Tests.{le-ltb}
-use Rattle.grammar.specs.Refusal.{Checked, refused, accepted}
-use Rattle.grammar.specs.Rule.{Rule}
+use Rattle.std.specs.Prelude.{Result, Ok, Err}
+use Rattle.grammar.specs.Numbers.{number_of, line_of}
+use Rattle.grammar.specs.Refusal.{refused, accepted}
 use Rattle.grammar.specs.Sheet.{Grammar, sheet}
-use Rattle.grammar.specs.Promise.{SheetPromise}
+use Rattle.grammar.specs.Promise.{told, SheetPromise}
 use Rattle.grammar.specs.Words.{rule_in}
+use Rattle.grammar.specs.declared.refusal.Refusal.{Refusal}
 use Rattle.grammar.specs.declared.sheet.Grammar.{Grammar as Line}
-use Rattle.grammar.specs.declared.sheet.Sheet.{Sheet}
-use Rattle.grammar.specs.declared.sheet.Sheet.TheVariants.{Read, Refused}
 use Rattle.grammar.proofs.Accepted.{grammar_in_range}
 use Rattle.grammar.proofs.Told.{Reads, told_refused, told_read, line_says_law}
 use Rattle.schema.specs.Derivation.{◌at◌}
-use Rattle.schema.specs.Handed.{Handed, handed, verdict_of}
+use Rattle.schema.specs.Handed.{handed, verdict_of}
 use Rattle.schema.specs.Table.{Within, cells}
-use Rattle.schema.proofs.Handed.{handed_sheet, handed_input, handed_slices}
+use Rattle.schema.proofs.Handed.{handed_sheet}
 use Rattle.schema.proofs.SheetClosed.{start_within}
 use Rattle.schema.proofs.Tested.{handed_refused, verdict_by}
 use Rattle.rules.specs.Admission.{Admits}
-use Rattle.rules.proofs.Admitted.{admits, rules_admitted}
+use Rattle.rules.proofs.Admitted.{admits}
 use Rattle.finish.specs.Reply.{Reply}
-use Rattle.memo.specs.Answer.{Says}
+use Rattle.memo.specs.Answer.{Answers}
 use Rattle.memo.specs.Ask.{AskReady}
-use Rattle.memo.proofs.Ready.{ready}
+use Rattle.memo.proofs.Ready as ready
+use Rattle.memo.proofs.Ready.{not_admitted, admitted, of_grammar}
 use Rattle.verdict.specs.Verdict.{judged, Judges}
 
 -- ---- The tests.
 
-module _ {s before after : List ℕ} {r : Sheet} (promise : SheetPromise s before after r) (input : List ℕ) (table work : ℕ) where
+module _ {s before after : List ℕ} {r : Result Line Refusal} (promise : SheetPromise s before after r) (input : List ℕ) (table work : ℕ) where
   -- Refused with the sheet.
-  pub refused_sheet : {x l : ℕ} → r ≡ Refused x l → Admits s (verdict_of input table work) before after (Refused x l)
-  refused_sheet {x} {l} e =
-      admits s (verdict_of input table work) before after (Refused x l) promise.stores
-      (handed_refused s (verdict_of input table work) x l (told_refused (sheet s) r x l promise.says e)) refl
+  pub refused_sheet : {t : Result Line Refusal} {n : Refusal} → r ≡ Err n → t ≡ Err n → Admits s (verdict_of input table work) before after t
+  refused_sheet {t} {n} e f =
+      admits s (verdict_of input table work) before after t promise.stores
+      (handed_refused s (verdict_of input table work) (number_of n) (line_of n) (told_refused (sheet s) r n promise.says e)) (ap told f)
 
-  module _ {l : Line} (e : r ≡ Read l) where
+  module _ {l : Line} (e : r ≡ Ok l) where
     read : Reads (sheet s) l
     read = told_read (sheet s) r l promise.says e
 
@@ -54,61 +54,41 @@ module _ {s before after : List ℕ} {r : Sheet} (promise : SheetPromise s befor
       follows = verdict_by s input read.grammar table work a c read.accepts long (rw read.variables_are (sym small))
 
       -- Refused with 6 or 10,
-      pub refused_then : {x : ℕ} → ((g : Grammar) → cond a (refused 6 0) (cond c (refused 10 0) (accepted g)) ≡ refused x 0)
-          → Admits s (verdict_of input table work) before after (Refused x 0)
-      refused_then {x} h = admits s (verdict_of input table work) before after (Refused x 0) promise.stores (follows ∙ h read.grammar) refl
+      pub refused_then : {n : Refusal} → ((g : Grammar) → cond a (refused 6 0) (cond c (refused 10 0) (accepted g)) ≡ refused (number_of n) (line_of n))
+          → Admits s (verdict_of input table work) before after (Err n)
+      refused_then {n} h = admits s (verdict_of input table work) before after (Err n) promise.stores (follows ∙ h read.grammar) refl
 
       -- or admitted.
       pub admitted_then : ((g : Grammar) → cond a (refused 6 0) (cond c (refused 10 0) (accepted g)) ≡ accepted g)
-          → Admits s (verdict_of input table work) before after (Read l)
-      admitted_then h = admits s (verdict_of input table work) before after (Read l) promise.stores (follows ∙ h read.grammar) (sym (line_says_law read))
+          → Admits s (verdict_of input table work) before after (Ok l)
+      admitted_then h = admits s (verdict_of input table work) before after (Ok l) promise.stores (follows ∙ h read.grammar) (sym (line_says_law read))
 
--- ---- What an admission gives its caller.
+-- ---- The verdict, from its admission on.
 
-module _ (s input table work : List ℕ) {before after : List ℕ} {r : Sheet} (admission : Admits s (verdict_of input (length table) (length work)) before after r) where
-  abbrev asked : Handed
-  asked = verdict_of input (length table) (length work)
+module _ (s input table work : List ℕ) {before after : List ℕ} {r : Result Line Refusal}
+    (admission : Admits s (verdict_of input (length table) (length work)) before after r) where
+  -- Refused,
+  pub refused_verdict : {n : Refusal} {numbers : List ℕ} → r ≡ Err n → numbers ≡ judged (length input) (refused (number_of n) (line_of n))
+      → Judges (handed s (verdict_of input (length table) (length work))) input table table work work numbers
+  refused_verdict e f = rw (not_admitted s (verdict_of input (length table) (length work)) admission e) (f, refl, refl)
 
-  -- The refusal,
-  pub not_admitted : {x l : ℕ} → r ≡ Refused x l → handed s (verdict_of input (length table) (length work)) ≡ refused x l
-  not_admitted {x} {l} e = told_refused (handed s asked) r x l admission.says e
-
-  module _ {l : Line} (e : r ≡ Read l) where
-    -- or the accepted grammar,
-    pub admitted : Reads (handed s (verdict_of input (length table) (length work))) l
-    admitted = told_read (handed s asked) r l admission.says e
-
-    reads : sheet s ≡ accepted admitted.grammar
-    reads = handed_sheet s asked admitted.grammar admitted.accepts
-
-    rules_are : rule_in after ≡ admitted.grammar.rule
-    rules_are = rules_admitted s asked before after r admission admitted.grammar admitted.accepts
-
-    -- which may be asked about its start variable at 0.
+  module _ {l : Line} (e : r ≡ Ok l) where
+    -- or asked about its start variable at 0,
     pub ask_ready : AskReady (rule_in after) input l.variables l.start 0 table work
     ask_ready =
-        let room = handed_slices s asked admitted.grammar admitted.accepts (length table) (length work) refl in
-        ready s after admitted.grammar reads admitted.variables_are rules_are input table work l.start 0
-        (handed_input s asked admitted.grammar admitted.accepts)
-        (subst (λ (A : ℕ). Within admitted.grammar.variables (length input) A 0) admitted.start_is (start_within s admitted.grammar reads))
-        (rw (← admitted.variables_are, le-ltb _ _ room.0, le-ltb _ _ room.1))
+        let h = verdict_of input (length table) (length work) in
+        let read = admitted s h admission e in
+        let g = read.grammar in
+        ready.ask_ready s h admission e table work l.start 0 refl
+        (subst (λ (A : ℕ). Within g.variables (length input) A 0) read.start_is (start_within s g (handed_sheet s h g read.accepts)))
 
-    -- What holds of the array's rules and of line 1 holds of the grammar.
-    pub of_grammar : (P : (ℕ → Rule) → ℕ → ℕ → Type 0) → P (rule_in after) l.variables l.start
-        → P admitted.grammar.rule admitted.grammar.variables admitted.grammar.start
-    of_grammar P h =
-        subst (λ (A : ℕ). P admitted.grammar.rule admitted.grammar.variables A) (sym admitted.start_is)
-        (subst (λ (n : ℕ). P admitted.grammar.rule n l.start) (sym admitted.variables_are) (subst (λ (f : ℕ → Rule). P f l.variables l.start) rules_are h))
-
-  -- ---- The verdict: refused,
-
-  pub refused_verdict : {table' work' : List ℕ} {x l : ℕ} → r ≡ Refused x l → table' ≡ table → work' ≡ work
-      → Judges (handed s (verdict_of input (length table) (length work))) input table table' work work' (judged (length input) (refused x l))
-  refused_verdict e k m = rw (not_admitted e) (refl, k, m)
-
-  -- or answered.
-  pub judges : {l : Line} → r ≡ Read l → {table' work' numbers : List ℕ} {t : Checked Reply}
-      → Says (rule_in after) l.variables input (l.start at 0) table table' work work' t → numbers ≡ judged (length input) t
-      → Judges (handed s (verdict_of input (length table) (length work))) input table table' work work' numbers
-  judges e {table'} {work'} {t = t} answered n =
-      rw (admitted e).accepts (t, n, of_grammar e (λ f v A. Says f v input (A at 0) table table' work work' t) answered)
+    -- and answered.
+    pub judges : {table' work' numbers : List ℕ} {a : Reply} → Answers (rule_in after) l.variables input (l.start at 0) table table' work work' a
+        → numbers ≡ judged (length input) (accepted a)
+        → Judges (handed s (verdict_of input (length table) (length work))) input table table' work work' numbers
+    judges {table'} {work'} {a = a} answers n =
+        rw (admitted s (verdict_of input (length table) (length work)) admission e).accepts (
+          accepted a,
+          n,
+          (a, refl, of_grammar s (verdict_of input (length table) (length work)) admission e (λ f v A. Answers f v input (A at 0) table table' work work' a) answers),
+        )

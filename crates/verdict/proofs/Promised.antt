@@ -4,6 +4,8 @@ use mathlib.Core.Logic.{◌↔◌}
 use mathlib.Core.Path.{◌≡◌, refl, sym, ap, ◌∙◌, subst}
 use Prim.Native.Nat.{ℕ}
 use lib.ListN.{length}
+use Rattle.std.specs.Prelude.{Result}
+use Rattle.grammar.specs.declared.refusal.Refusal.{Refusal}
 use Rattle.grammar.specs.Refusal.{Checked, refused, accepted}
 use Rattle.grammar.specs.Sheet.{Grammar}
 use Rattle.schema.specs.Derivation.{◌at◌, Outcome, Has}
@@ -22,7 +24,7 @@ module _ (s input table work : List ℕ) where
 
   module _ (g : Grammar) (accepts : handed s (verdict_of input (length table) (length work)) ≡ accepted g) where
     -- The numbers of a verdict are those of the outcome that the start variable at 0 has, with the number of reached pairs.
-    pub verdict_reply : (table' work' : List ℕ) (r : Judgement) → VerdictPromise s input table table' work work' r
+    pub verdict_reply : (table' work' : List ℕ) (r : Result Judgement Refusal) → VerdictPromise s input table table' work work' r
         → (a : Reply) × (numbers r ≡ judged (length input) (accepted a)) × Number (Reached g.rule input (g.start at 0)) (count_of a)
         × ((o : Outcome) → Has g.rule input (g.start at 0) o ↔ (outcome_of a ≡ o))
     verdict_reply table' work' r promise =
@@ -35,7 +37,7 @@ module _ (s input table work : List ℕ) where
         )
 
   -- One verdict only: the same numbers and the same table.
-  pub one_verdict : (table' table'' work' work'' : List ℕ) (r t : Judgement) → VerdictPromise s input table table' work work' r
+  pub one_verdict : (table' table'' work' work'' : List ℕ) (r t : Result Judgement Refusal) → VerdictPromise s input table table' work work' r
       → VerdictPromise s input table table'' work work'' t → (numbers r ≡ numbers t) × (table' ≡ table'')
   one_verdict table' table'' work' work'' r t one other = by_sheet (handed s asked) refl one other
     where

@@ -1,24 +1,26 @@
 -- Document 01, "Verdict asks the start variable at 0": the promise of a verdict. Assumes nothing.
-use Rattle.std.specs.Prelude.{List, [], ◌∷◌, ◌≡◌, ℕ, length}
+use Rattle.std.specs.Prelude.{List, [], ◌∷◌, ◌≡◌, ℕ, length, Result, Ok, Err}
+use Rattle.grammar.specs.Numbers.{number_of, line_of}
 use Rattle.grammar.specs.Refusal.{Checked, refused, accepted}
 use Rattle.grammar.specs.Sheet.{Grammar}
+use Rattle.grammar.specs.declared.refusal.Refusal.{Refusal}
 use Rattle.schema.specs.Derivation.{◌at◌, success, failure, Outcome, result, stopped, loop}
 use Rattle.schema.specs.Handed.{handed, verdict_of}
 use Rattle.schema.specs.Verdict.{verdict_code}
 use Rattle.finish.specs.Reply.{Reply, reply}
 use Rattle.memo.specs.Answer.{Says}
 use Rattle.verdict.specs.declared.Judgement.{Judgement}
-use Rattle.verdict.specs.declared.Judgement.TheVariants.{Recognised, Partial, Failure, Loop, Missing, Refused}
+use Rattle.verdict.specs.declared.Judgement.TheVariants.{Recognised, Partial, Failure, Loop, Missing}
 
 -- "code (0 recognised, 1 failure, 2 loop, 3 missing, .. 5 partial, 9 refused), named variable or refusal number,
 -- place (end, named place, refused line, or 0), cells (0 if refused)": what each case of a verdict says.
-abbrev pub numbers : Judgement → List ℕ
-numbers (Recognised q count) = 0 ∷ 0 ∷ q ∷ count ∷ []
-numbers (Failure count) = 1 ∷ 0 ∷ 0 ∷ count ∷ []
-numbers (Loop A p count) = 2 ∷ A ∷ p ∷ count ∷ []
-numbers (Missing A p count) = 3 ∷ A ∷ p ∷ count ∷ []
-numbers (Partial q count) = 5 ∷ 0 ∷ q ∷ count ∷ []
-numbers (Refused number line) = 9 ∷ number ∷ line ∷ 0 ∷ []
+abbrev pub numbers : Result Judgement Refusal → List ℕ
+numbers (Ok (Recognised q count)) = 0 ∷ 0 ∷ q ∷ count ∷ []
+numbers (Ok (Failure count)) = 1 ∷ 0 ∷ 0 ∷ count ∷ []
+numbers (Ok (Loop A p count)) = 2 ∷ A ∷ p ∷ count ∷ []
+numbers (Ok (Missing A p count)) = 3 ∷ A ∷ p ∷ count ∷ []
+numbers (Ok (Partial q count)) = 5 ∷ 0 ∷ q ∷ count ∷ []
+numbers (Err e) = 9 ∷ number_of e ∷ line_of e ∷ 0 ∷ []
 
 -- "place (end, named place .. or 0)"
 abbrev pub position_for : Outcome → ℕ → ℕ
@@ -39,6 +41,6 @@ Judges (accepted g) input table table' work work' r =
     (a : Checked Reply) × (r ≡ judged (length input) a) × Says g.rule g.variables input (g.start at 0) table table' work work' a
 
 -- The promise of a verdict.
-abbrev pub VerdictPromise : List ℕ → List ℕ → List ℕ → List ℕ → List ℕ → List ℕ → Judgement → Type 0
+abbrev pub VerdictPromise : List ℕ → List ℕ → List ℕ → List ℕ → List ℕ → List ℕ → Result Judgement Refusal → Type 0
 VerdictPromise sheet input table table' work work' r =
     Judges (handed sheet (verdict_of input (length table) (length work))) input table table' work work' (numbers r)
