@@ -12,7 +12,7 @@ returns-in_err-next c =
 pub returns-then-left-eq0 : goal.returns-then-left-eq0
 returns-then-left-eq0 c =
     let a = c.args in
-    turn_spent a.rules.now a.input.now a.frames.now a.budget a.x c.requires.2 c.in_ok-next.next c.in_ok-next.ensures c.if-left-eq0.true
+    turn_spent a.rules.now a.input.now a.frames.now a.budget a.x c.requires.2 c.in_ok-next.next c.in_ok-next.ensures (omega arith)
 
 pub overflow_sub-below : goal.overflow_sub-below
 overflow_sub-below c =
