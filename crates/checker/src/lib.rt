@@ -3,15 +3,14 @@
 
 ghost use Rattle.std.specs.Prelude.{cond, ◌&&◌, ◌≡◌, ◌*◌, ◌≤◌, eqb, length};
 ghost use Rattle.std.proofs.Math.Option.{none, some};
-ghost use Rattle.columns.specs.Column.{fields};
 ghost use Rattle.grammar.specs.Words.{rule_in};
 ghost use Rattle.schema.specs.Derivation.{act, ◌at◌};
 ghost use Rattle.checker.specs.declared.Rejection.TheVariants.{Refused};
 ghost use Rattle.checker.specs.Rejections.{number_of, line_of};
-ghost use Rattle.checker.specs.Checker.{line_from, line_at, earlier_line, result_for, result_then, result_by, says, last_found, judged, told, Checks};
+ghost use Rattle.checker.specs.Checker.{line_at, earlier_line, result_for, result_then, result_by, says, last_found, judged, told, Checks};
 ghost use Rattle.checker.specs.Steps.{line_held, line_read, result_given, Sized, test_says, line_found, lines_found};
 
-use columns::{Cursor, Field};
+use columns::fields;
 use grammar::refusal::Refusal;
 use grammar::sheet::Rules;
 use rules::{Act, act_at, admit};
@@ -84,44 +83,6 @@ enum Outcome {
     Failure,
 }
 
-// The six fields of a line, one after another.
-fn read_fields(line: &[u8]) -> Option<Line>
-    ensures { line_read result ≡ line_from (fields 6 8 line.now 0) }
-{
-    let mut numbers = [0u32; 6];
-    let mut here = Cursor { at: 0 };
-    let mut k: usize = 0;
-    while k < 6 {
-        let Field::Number(x, next) = here.eight(line) else {
-            return None;
-        };
-        numbers[k] = x;
-        here = next;
-        k += 1;
-    }
-    Some(Line {
-        variable: numbers[0],
-        start: numbers[1],
-        outcome: numbers[2],
-        end: numbers[3],
-        first: numbers[4],
-        second: numbers[5],
-    })
-}
-
-// The fields of the line that begins at a position. They are read from a part of 48 columns, so that the compiler knows them to be there.
-fn read_line(certificate: &[u8], from: usize) -> Option<Line>
-    ensures { line_read result ≡ line_from (fields 6 8 certificate.now from) }
-{
-    if certificate.len() < 48 {
-        return None;
-    }
-    if certificate.len() - 48 < from {
-        return None;
-    }
-    read_fields(&certificate[from..from + 48])
-}
-
 // The line of a number.
 #[tactic(auto, using(crate::proofs::LineForm::line_form))]
 fn line_at(certificate: &[u8], number: usize) -> Option<Line>
@@ -132,7 +93,16 @@ fn line_at(certificate: &[u8], number: usize) -> Option<Line>
     if certificate[at + 48] != 10 {
         return None;
     }
-    read_line(certificate, at)
+    let numbers = fields::<6, 8>(certificate, at)?;
+    let [variable, start, outcome, end, first, second] = numbers;
+    Some(Line {
+        variable,
+        start,
+        outcome,
+        end,
+        first,
+        second,
+    })
 }
 
 // The outcome that a line gives the pair of a variable and a position, if it is that pair's line.
