@@ -11,13 +11,14 @@ use Rattle.columns.specs.Column.{fields}
 use Rattle.grammar.specs.Refusal.{Checked, refused, accepted, checked}
 use Rattle.grammar.specs.Rule.{within, unused}
 use Rattle.grammar.specs.Sheet.{line_at, header_out, condition}
-use Rattle.grammar.specs.Reading.{numbers_of, header_found}
+use Rattle.columns.specs.Scan.{held}
+use Rattle.grammar.specs.Reading.{header_found}
 use Rattle.std.specs.Prelude.{Option as Maybe}
 
 -- The line whose fields were read.
-pub line_read : (s : List ℕ) (line : ℕ) {at : ℕ} {r variant : Maybe (List ℕ)} → at ≡ 26 * (line - 1) → numbers_of r ≡ fields 5 5 s at → r ≡ variant → line_at s line ≡ numbers_of variant
+pub line_read : (s : List ℕ) (line : ℕ) {at : ℕ} {r variant : Maybe (List ℕ)} → at ≡ 26 * (line - 1) → held r ≡ fields 5 5 s at → r ≡ variant → line_at s line ≡ held variant
 unfolding line_at
-line_read s line p e f = sym (ap (fields 5 5 s) p) ∙ sym e ∙ ap numbers_of f
+line_read s line p e f = sym (ap (fields 5 5 s) p) ∙ sym e ∙ ap held f
 
 -- What a test says of a condition.
 pub fails : {r t : Bool} → r ≡ t → not r ≡ true → t ≡ false

@@ -9,11 +9,6 @@ use Rattle.grammar.specs.declared.rule.Rule.{Rule as Held}
 use Rattle.grammar.specs.Numbers.{checked_as}
 use Rattle.grammar.specs.declared.refusal.Refusal.{Refusal}
 
--- The numbers of a line.
-abbrev pub numbers_of : Maybe (List ℕ) → Option (List ℕ)
-numbers_of (Some numbers) = some numbers
-numbers_of None = none
-
 -- The rule of a kind and operands that fit.
 abbrev pub rule_given : Maybe Held → Option Rule
 rule_given (Some r) = some (rule_held r)

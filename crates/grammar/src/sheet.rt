@@ -1,14 +1,13 @@
 // Reads a rule sheet: the grammar that it describes, or its first refusal.
 ghost use Rattle.std.specs.Prelude.{◌≡◌, ◌*◌, ◌≤◌, length};
-ghost use Rattle.columns.specs.Column.{fields};
 ghost use Rattle.grammar.specs.Rule.{within, rule_of};
 ghost use Rattle.grammar.specs.Sheet.{not_lines, open_line};
-ghost use Rattle.grammar.specs.Reading.{numbers_of, rule_given, header_found, line_says, line_found, Before, rules_say, rules_found, Ready, Stored};
+ghost use Rattle.grammar.specs.Reading.{rule_given, header_found, line_says, line_found, Before, rules_say, rules_found, Ready, Stored};
 ghost use Rattle.grammar.specs.Promise.{told, SheetPromise};
 
 use crate::refusal::Refusal;
 use crate::rule::Rule;
-use columns::{Cursor, Field};
+use columns::fields;
 
 // The words of the rules of variables 1 to 256.
 pub type Rules = [u32; 256];
@@ -19,37 +18,6 @@ pub struct Grammar {
     pub variables: u32,
     pub start: u32,
     pub endmarker: u32,
-}
-
-// The five fields of a line, one after another.
-fn read_fields(line: &[u8]) -> Option<[u32; 5]>
-    ensures { numbers_of result ≡ fields 5 5 line.now 0 }
-{
-    let mut numbers = [0u32; 5];
-    let mut here = Cursor { at: 0 };
-    let mut k: usize = 0;
-    while k < 5 {
-        let Field::Number(x, next) = here.five(line) else {
-            return None;
-        };
-        numbers[k] = x;
-        here = next;
-        k += 1;
-    }
-    Some(numbers)
-}
-
-// The fields of the line that begins at a position. They are read from a part of 25 columns, so that the compiler knows them to be there.
-fn read_line(s: &[u8], at: usize) -> Option<[u32; 5]>
-    ensures { numbers_of result ≡ fields 5 5 s.now at }
-{
-    if s.len() < 25 {
-        return None;
-    }
-    if s.len() - 25 < at {
-        return None;
-    }
-    read_fields(&s[at..at + 25])
 }
 
 // Is there a line without byte 10 at its end?
@@ -87,7 +55,7 @@ fn not_lines(s: &[u8]) -> bool
 fn read_header(s: &[u8]) -> Result<Grammar, Refusal>
     ensures { told result ≡ header_found s.now }
 {
-    let Some(numbers) = read_line(s, 0) else {
+    let Some(numbers) = fields::<5, 5>(s, 0) else {
         return Err(Refusal::Field(1));
     };
     let [variables, start, endmarker, fourth, fifth] = numbers;
@@ -159,7 +127,7 @@ fn read_rule(s: &[u8], line: u32, variables: u32, before: u32) -> Result<(u32, u
     requires { Before s.now line variables before }
     ensures { line_says result ≡ line_found s.now line }
 {
-    let Some(numbers) = read_line(s, 26 * (line as usize - 1)) else {
+    let Some(numbers) = fields::<5, 5>(s, 26 * (line as usize - 1)) else {
         return Err(Refusal::Field(line));
     };
     let [variable, kind, x, y, z] = numbers;
