@@ -1,19 +1,20 @@
 -- The first pass: whether a cell that stays is out of range, and from where on each row has something to blank. Assumes nothing.
 use mathlib.Core.Bool.{Bool, true, false, cond, not, ◌&&◌, ◌||◌, true≢false}
-use mathlib.Core.List.{List}
+use mathlib.Core.List.{List, ◌++◌}
 use mathlib.Core.Logic.{◌≢◌}
 use mathlib.Core.Path.{◌≡◌, refl, sym, ap, ap₂, ◌∙◌, subst}
 use Prim.Native.Nat.{ℕ, zero, suc, ◌+◌, ◌-◌, ◌*◌, ◌≤◌, ◌<◌, min}
 use native.Mathlib.Decide.{ℕ_discrete}
 use native.Mathlib.Omega.{arith}
 use lib.Dec.{eqb, ltb}
-use lib.ListN.{length, get_or, set, length-set}
+use lib.ListN.{length, get_or, set}
 use lib.Seq.{get_or-set_same, get_or-set_other}
 use borrow.Author.Tests.{eqb-true, ne_eqb, ltb-true, ltb-false, lt-ltb, le-ltb}
 use Rattle.grammar.proofs.Fitting.{neither_true}
 use Rattle.schema.specs.Cells.{held_at, reach_at, cell_at}
 use Rattle.schema.specs.Derivation.{◌at◌}
 use Rattle.schema.specs.Table.{cells}
+use Rattle.std.proofs.lemmas.List.{get_or_append_left}
 use Rattle.kept.specs.Kept.{stays, kept, retained}
 use Rattle.kept.specs.Range.{out_of_range, cells_out}
 use Rattle.kept.specs.Some.{some}
@@ -223,14 +224,12 @@ variable_row n limit T i =
 pub record RowsPassing (n limit : ℕ) (T firsts : List ℕ) (row : ℕ) : Type 0 where
   pub each : (i : ℕ) → i < row → some (n + 1) (λ p. out_of_range n p (retained limit n T (suc i at p))) ≡ false
   pub noted : Firsts row n limit T firsts
-  pub room : length firsts ≡ 256
 
 module _ (n limit : ℕ) (T : List ℕ) where
-  pub rows_begin : {firsts : List ℕ} → length firsts ≡ 256 → RowsPassing n limit T firsts 0
-  rows_begin e = record {
+  pub rows_begin : (firsts : List ℕ) → RowsPassing n limit T firsts 0
+  rows_begin firsts = record {
     each = λ i l. absurd (omega arith);
     noted = record { low = λ i l. absurd (omega arith); unchanged = λ i l. absurd (omega arith) };
-    room = e;
   }
 
   module _ {firsts : List ℕ} {row : ℕ} (passing : RowsPassing n limit T firsts row) where
@@ -245,8 +244,8 @@ module _ (n limit : ℕ) (T : List ℕ) where
       unchanged_here : limit ≤ n → Unchanged limit T (cells row n) first
       unchanged_here l p m = let h = found.low in found.unchanged p (omega arith) m
 
-      noted_more : limit ≤ n → row < 256 → Firsts (row + 1) n limit T (set firsts row first)
-      noted_more l m = record {
+      noted_more : limit ≤ n → row < length firsts → Firsts (row + 1) n limit T (set firsts row first)
+      noted_more l here = record {
         low = λ i h. elim (ℕ_discrete i row) [
           | yes z ↦ subst (λ (k : ℕ). k ≤ limit) (sym (ap (λ (k : ℕ). get_or (set firsts row first) k 0) z ∙ first_here here)) found.low
           | no d ↦ subst (λ (k : ℕ). k ≤ limit) (sym (first_there i d)) (passing.noted.low i (omega arith))
@@ -258,19 +257,22 @@ module _ (n limit : ℕ) (T : List ℕ) where
           | no d ↦ subst (Unchanged limit T (cells i n)) (sym (first_there i d)) (passing.noted.unchanged i (omega arith))
         ];
       }
-        where
-          here : row < length firsts
-          here = let e = passing.room in omega arith
 
-      pub rows_go_on : limit ≤ n → row < 256 → RowsPassing n limit T (set firsts row first) (row + 1)
-      rows_go_on l m = record {
+      pub rows_go_on : limit ≤ n → row < length firsts → RowsPassing n limit T (set firsts row first) (row + 1)
+      rows_go_on l here = record {
         each = λ i k. elim (ℕ_discrete i row) [
           | yes z ↦ ap (variable_out n limit T) z ∙ variable_row n limit T row ∙ sym found.says
           | no d ↦ passing.each i (omega arith)
         ];
-        noted = noted_more l m;
-        room = length-set firsts row first ∙ passing.room;
+        noted = noted_more l here;
       }
+
+    -- What stands behind the positions that are noted does not matter.
+    pub rows_noted : (v : ℕ) (rest : List ℕ) → row ≡ v → v ≤ length firsts → Firsts v n limit T (firsts ++ rest)
+    rows_noted v rest e l = record {
+      low = λ i m. rw (get_or_append_left firsts rest 0 i (omega arith)) (passing.noted.low i (omega arith));
+      unchanged = λ i m. rw (get_or_append_left firsts rest 0 i (omega arith)) (passing.noted.unchanged i (omega arith));
+    }
 
     pub rows_in : (v : ℕ) → row ≡ v → cells_out v n (retained limit n T) ≡ false
     unfolding cells_out

@@ -140,8 +140,8 @@ fn note_firsts(
     ensures refuses { result ≡ refused_if (cells_out variables n (retained limit n table.now)) }
     ensures notes { FirstsUnless (cells_out variables n (retained limit n table.now)) variables n limit table.now firsts.new }
 {
-    for row in 0..variables as usize {
-        firsts[row] = look_row(table, row * (n + 1), n, limit)?;
+    for (row, first) in firsts[..variables as usize].iter_mut().enumerate() {
+        *first = look_row(table, row * (n + 1), n, limit)?;
     }
     Ok(())
 }
@@ -189,8 +189,8 @@ fn retain_rows(table: &mut [u32], variables: u32, n: usize, limit: u32, firsts: 
     requires { PassReady variables n limit table.old × Firsts variables n limit table.old firsts.now }
     ensures { Starts variables n (retained limit n table.old) table.old table.new }
 {
-    for row in 0..variables as usize {
-        retain_row(table, row * (n + 1), firsts[row], limit);
+    for (row, first) in firsts[..variables as usize].iter().enumerate() {
+        retain_row(table, row * (n + 1), *first, limit);
     }
 }
 
