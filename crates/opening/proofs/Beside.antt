@@ -8,6 +8,8 @@ use Prim.Native.Nat.{ℕ}
 use native.Mathlib.Omega.{arith}
 use lib.Dec.{eqb}
 use lib.ListN.{length, get_or}
+use Rattle.std.specs.Prelude.{Result, Option as Maybe}
+use Rattle.grammar.specs.declared.refusal.Refusal.{Refusal}
 use Rattle.grammar.specs.Refusal.{Checked, refused, accepted}
 use Rattle.grammar.specs.Rule.{Rule}
 use Rattle.grammar.specs.Sheet.{Grammar}
@@ -21,7 +23,6 @@ use Rattle.verdict.specs.Verdict.{numbers, judged, Judges, VerdictPromise}
 use Rattle.verdict.specs.declared.Judgement.{Judgement}
 use Rattle.opening.specs.Beside.{code_in, BesideVerdict}
 use Rattle.opening.specs.Opening.{LoopOpening, told, Finds, OpeningPromise}
-use Rattle.opening.specs.declared.Prefix.{Prefix}
 use Rattle.opening.proofs.Promised.{left_one}
 
 -- Only loop has the code 2.
@@ -38,7 +39,7 @@ code_loop n loop e = refl
 first_code : (n : ℕ) (o : Outcome) (z : Pair) (count : ℕ) → get_or (judged n (accepted (reply o z count))) 0 0 ≡ verdict_code n o
 first_code n o (A at p) count = refl
 
-module _ {table' table'' : List ℕ} (r : Prefix) (j : Judgement) where
+module _ {table' table'' : List ℕ} (r : Result (Maybe ℕ) Refusal) (j : Result Judgement Refusal) where
   -- Both are refused.
   refused_beside : (n : ℕ) {x l : ℕ} → told r ≡ refused x l → numbers j ≡ judged n (refused x l) → table' ≡ table'' → BesideVerdict table' table'' r j
   refused_beside n {x} {l} e f same =
@@ -98,7 +99,7 @@ module _ {table' table'' : List ℕ} (r : Prefix) (j : Judgement) where
 
 -- Of any results of both calls.
 module _ (s input table work : List ℕ) where
-  pub as_verdict : (table' table'' work' work'' : List ℕ) (r : Prefix) (j : Judgement) → OpeningPromise s input table table' work work' r
+  pub as_verdict : (table' table'' work' work'' : List ℕ) (r : Result (Maybe ℕ) Refusal) (j : Result Judgement Refusal) → OpeningPromise s input table table' work work' r
       → VerdictPromise s input table table'' work work'' j → BesideVerdict table' table'' r j
   as_verdict table' table'' work' work'' r j one other = by_sheet (handed s (verdict_of input (length table) (length work))) one other
     where

@@ -1,5 +1,5 @@
 -- Three sheets and five entries, of any result that meets the contract: the outcomes of entries and openings are computed. Assumes nothing.
-use mathlib.Core.Bool.{true, false, true≢false}
+use mathlib.Core.Bool.{false, true≢false}
 use mathlib.Core.List.{List, [], ◌∷◌}
 use mathlib.Core.Logic.{◌≢◌}
 use mathlib.Core.Option.{none, some}
@@ -15,6 +15,8 @@ use Rattle.calls.proofs.Numbered.{numbered}
 use Rattle.calls.proofs.Table.{put, fresh, count_fresh}
 use Rattle.calls.proofs.Walk.{walk, ask}
 use Rattle.columns.specs.Column.{leading, column, row, digits_after, number, field, fields}
+use Rattle.std.specs.Prelude.{Result, Option as Maybe}
+use Rattle.grammar.specs.declared.refusal.Refusal.{Refusal}
 use Rattle.grammar.specs.Refusal.{accepted, checked}
 use Rattle.grammar.specs.Rule.{rule_of}
 use Rattle.grammar.specs.Sheet.{grammar_of, sheet, line_at, rule_within, open_line, not_lines, header_out, variable_out, condition, rule_order, sheet_order}
@@ -29,7 +31,6 @@ use Rattle.schema.proofs.System.{gts}
 use Rattle.schema.proofs.Tested.{verdict_by}
 use Rattle.schema.proofs.Walk.{walked, outcome_in, walk_has}
 use Rattle.opening.specs.Opening.{told, OpeningPromise}
-use Rattle.opening.specs.declared.Prefix.{Prefix}
 use Rattle.opening.proofs.Promised.{least_exactly, none_exactly}
 
 module _ (s : List ℕ) (reads : sheet s ≡ accepted (grammar_of s)) where
@@ -73,7 +74,7 @@ unfolding text leading column row digits_after number field fields line_at
 cells_g = refl
 
 -- The empty opening loops.
-pub case_g : (table table' work work' : List ℕ) (r : Prefix) → 2 ≤ length table → 1 ≤ length work
+pub case_g : (table table' work work' : List ℕ) (r : Result (Maybe ℕ) Refusal) → 2 ≤ length table → 1 ≤ length work
     → OpeningPromise (text (header 1 ∷ (1 ∷ 4 ∷ 1 ∷ 1 ∷ 1 ∷ []) ∷ [])) [] table table' work work' r → told r ≡ accepted (some 0)
 case_g table table' work work' r t w promise =
     (least_exactly sheet_g [] table work table' work' r promise (grammar_of sheet_g)
@@ -124,7 +125,7 @@ none_shorter_b (suc (suc zero)) l = not_loop sheet_b reads_b (54 ∷ 54 ∷ []) 
 none_shorter_b (suc (suc (suc j))) l = absurd (omega arith)
 
 -- The three bytes that lead to the loop.
-pub case_behind : (table table' work work' : List ℕ) (r : Prefix) → 60 ≤ length table → 30 ≤ length work
+pub case_behind : (table table' work work' : List ℕ) (r : Result (Maybe ℕ) Refusal) → 60 ≤ length table → 30 ≤ length work
     → OpeningPromise sheet_b entry_b table table' work work' r → told r ≡ accepted (some 3)
 case_behind table table' work work' r t w promise =
     (least_exactly sheet_b entry_b table work table' work' r promise (grammar_of sheet_b)
@@ -134,7 +135,7 @@ case_behind table table' work work' r t w promise =
     )
 
 -- Without the third of them there is no loop, and no opening.
-pub case_none : (table table' work work' : List ℕ) (r : Prefix) → 48 ≤ length table → 24 ≤ length work
+pub case_none : (table table' work work' : List ℕ) (r : Result (Maybe ℕ) Refusal) → 48 ≤ length table → 24 ≤ length work
     → OpeningPromise sheet_b entry_c table table' work work' r → told r ≡ accepted none
 case_none table table' work work' r t w promise =
     (none_exactly sheet_b entry_c table work table' work' r promise (grammar_of sheet_b)
@@ -175,7 +176,7 @@ a_ends : Loops (grammar_of sheet_l).rule (97 ∷ []) (start sheet_l reads_l) →
 a_ends = not_loop sheet_l reads_l (97 ∷ []) (result (success 1)) outcomes_l.a (λ e. true≢false (cc))
 
 -- `a` is recognised, so it gets none, though its opening of 0 bytes loops.
-pub case_a : (table table' work work' : List ℕ) (r : Prefix) → 24 ≤ length table → 12 ≤ length work
+pub case_a : (table table' work work' : List ℕ) (r : Result (Maybe ℕ) Refusal) → 24 ≤ length table → 12 ≤ length work
     → OpeningPromise sheet_l (97 ∷ []) table table' work work' r → (told r ≡ accepted none) × Loops (grammar_of sheet_l).rule (take 0 (97 ∷ [])) (1 at 0)
 case_a table table' work work' r t w promise = (
   (none_exactly sheet_l (97 ∷ []) table work table' work' r promise (grammar_of sheet_l)
@@ -184,7 +185,7 @@ case_a table table' work work' r t w promise = (
 )
 
 -- `ab` loops, and m is 0, though its opening `a` does not.
-pub case_ab : (table table' work work' : List ℕ) (r : Prefix) → 36 ≤ length table → 18 ≤ length work → OpeningPromise sheet_l (97 ∷ 98 ∷ []) table table' work work' r
+pub case_ab : (table table' work work' : List ℕ) (r : Result (Maybe ℕ) Refusal) → 36 ≤ length table → 18 ≤ length work → OpeningPromise sheet_l (97 ∷ 98 ∷ []) table table' work work' r
     → (told r ≡ accepted (some 0)) × (Loops (grammar_of sheet_l).rule (take 1 (97 ∷ 98 ∷ [])) (1 at 0) → ⊥)
 case_ab table table' work work' r t w promise = (
   (least_exactly sheet_l (97 ∷ 98 ∷ []) table work table' work' r promise (grammar_of sheet_l)

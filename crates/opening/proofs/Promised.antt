@@ -9,6 +9,8 @@ use native.Mathlib.Omega.{arith}
 use lib.Dec.{ltb}
 use lib.ListN.{length}
 use borrow.Author.Tests.{ltb-true, ltb-false}
+use Rattle.std.specs.Prelude.{Result, Option as Maybe}
+use Rattle.grammar.specs.declared.refusal.Refusal.{Refusal}
 use Rattle.grammar.specs.Refusal.{Checked, refused, accepted}
 use Rattle.grammar.specs.Rule.{Rule}
 use Rattle.grammar.specs.Sheet.{Grammar}
@@ -19,7 +21,6 @@ use Rattle.schema.proofs.Following.{Follows}
 use Rattle.schema.proofs.Small.{refusal_small}
 use Rattle.memo.proofs.TableOne.{table_one}
 use Rattle.opening.specs.Opening.{Shortest, LoopOpening, told, Finds, OpeningPromise}
-use Rattle.opening.specs.declared.Prefix.{Prefix}
 
 -- ---- One least opening.
 
@@ -50,7 +51,7 @@ module _ (s input table work : List ℕ) where
   asked = verdict_of input (length table) (length work)
 
   -- There is one answer, and one table.
-  pub one_opening : (table' table'' work' work'' : List ℕ) (r q : Prefix) → OpeningPromise s input table table' work work' r
+  pub one_opening : (table' table'' work' work'' : List ℕ) (r q : Result (Maybe ℕ) Refusal) → OpeningPromise s input table table' work work' r
       → OpeningPromise s input table table'' work work'' q → (told r ≡ told q) × (table' ≡ table'')
   one_opening table' table'' work' work'' r q one other = by_sheet (handed s asked) one other
     where
@@ -65,7 +66,7 @@ module _ (s input table work : List ℕ) where
           )
 
   -- Refused exactly where the verdict is, and then with both slices as they were.
-  pub opening_follows : (table' work' : List ℕ) (r : Prefix) → OpeningPromise s input table table' work work' r
+  pub opening_follows : (table' work' : List ℕ) (r : Result (Maybe ℕ) Refusal) → OpeningPromise s input table table' work work' r
       → Follows (Option ℕ) s (verdict_of input (length table) (length work)) (told r) ((table' ≡ table) × (work' ≡ work))
   opening_follows table' work' r promise = record {
     refused_as = λ x l e. let k = given (refused x l) e in (k.0, (k.1, k.2));
@@ -76,7 +77,7 @@ module _ (s input table work : List ℕ) where
       given o e = subst (λ (o : Checked Grammar). Finds o input table table' work work' (told r)) e promise
 
   -- Numbers go up to 11.
-  pub opening_small : (table' work' : List ℕ) (r : Prefix) → OpeningPromise s input table table' work work' r → (x l : ℕ) → told r ≡ refused x l → x ≤ 11
+  pub opening_small : (table' work' : List ℕ) (r : Result (Maybe ℕ) Refusal) → OpeningPromise s input table table' work work' r → (x l : ℕ) → told r ≡ refused x l → x ≤ 11
   opening_small table' work' r promise x l e = by_sheet (handed s asked) refl promise
     where
       by_sheet : (o : Checked Grammar) → handed s asked ≡ o → Finds o input table table' work work' (told r) → x ≤ 11
@@ -87,7 +88,7 @@ module _ (s input table work : List ℕ) where
           omega arith
       by_sheet (accepted g) q k = let f = k.1 in absurd (true≢false (cc))
 
-  module _ (table' work' : List ℕ) (r : Prefix) (promise : OpeningPromise s input table table' work work' r) (g : Grammar)
+  module _ (table' work' : List ℕ) (r : Result (Maybe ℕ) Refusal) (promise : OpeningPromise s input table table' work work' r) (g : Grammar)
       (accepts : handed s (verdict_of input (length table) (length work)) ≡ accepted g) where
     -- An answer is given exactly where it is the opening,
     opening_exactly : (a : Option ℕ) → (told r ≡ accepted a) ↔ LoopOpening g.rule input (g.start at 0) a

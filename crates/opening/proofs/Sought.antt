@@ -1,43 +1,25 @@
 -- The search for the least opening that loops, opening by opening. Assumes nothing.
 use mathlib.Core.Bool.{Bool, true, false}
 use mathlib.Core.List.{List}
-use mathlib.Core.Path.{◌≡◌, refl, sym, ap, ◌∙◌, subst}
-use Prim.Native.Nat.{ℕ, ◌+◌, ◌-◌, ◌*◌, ◌≤◌, ◌<◌}
+use mathlib.Core.Path.{◌≡◌, sym, ap, ◌∙◌, subst}
+use Prim.Native.Nat.{ℕ, ◌+◌, ◌*◌, ◌≤◌, ◌<◌}
 use native.Mathlib.Decide.{ℕ_discrete}
 use native.Mathlib.Nat.{mul-le-mul_left}
 use native.Mathlib.Omega.{arith}
 use lib.ListN.{length, take, drop, length-append, take-append-drop}
 use lib.Seq.{take-length}
 use Rattle.grammar.specs.Rule.{Rule}
-use Rattle.schema.specs.Derivation.{Pair, ◌at◌, Loops}
+use Rattle.schema.specs.Derivation.{Pair, Loops}
 use Rattle.schema.specs.Table.{cells}
 use Rattle.schema.proofs.Cells.{later_from}
-use Rattle.memo.specs.Ask.{AskReady}
-use Rattle.opening.specs.Opening.{Shortest, Asked}
+use Rattle.opening.specs.Opening.{Asked}
 use Rattle.opening.specs.Seeking.{AskedLoop, SaysLoop, Between, Found}
 
 -- A list that is not longer than the input: an opening of it, or the whole.
 module _ (v : ℕ) (input s : List ℕ) (l : length s ≤ length input) where
-  -- It has no more cells,
+  -- It has no more cells.
   fewer_cells : cells v (length s) ≤ cells v (length input)
   fewer_cells = mul-le-mul_left v (omega arith)
-
-  -- and may be asked over the same slices.
-  pub part_ready : {rule : ℕ → Rule} {A : ℕ} {T₀ T W₀ W : List ℕ} → AskReady rule input v A 0 T₀ W₀ → length T ≡ length T₀ → length W ≡ length W₀
-      → AskReady rule s v A 0 T W
-  part_ready r t w =
-      let f = fewer_cells in
-      let a = r.short in
-      let b = r.room in
-      let c = r.work_room in
-      record {
-        few = r.few;
-        short = omega arith;
-        closed = r.closed;
-        within = record { variable = r.within.variable; position = omega arith };
-        room = omega arith;
-        work_room = omega arith;
-      }
 
   -- A question about it changes nothing beyond what one about the whole input writes.
   pub between_more : {rule : ℕ → Rule} {x : Pair} {T₀ T T' W₀ W W' : List ℕ} {Said : Type 0} → Asked Said rule v s x T T' W W' → Between v input T₀ T W₀ W
@@ -51,17 +33,9 @@ module _ (v : ℕ) (input s : List ℕ) (l : length s ≤ length input) where
         size = asked.size ∙ b.size;
       }
 
--- At first nothing is changed.
-pub unchanged : (v : ℕ) (input T W : List ℕ) → Between v input T T W W
-unchanged v input T W = record { later = refl; same = refl; beyond = refl; size = refl }
-
--- A part from the front is not longer,
+-- A part from the front is not longer.
 pub part_fits : (k : ℕ) (input : List ℕ) → length (take k input) ≤ length input
 part_fits k input = let e = sym (length-append (take k input) (drop k input)) ∙ ap length (take-append-drop k input) in omega arith
-
--- and the part that the code lends is an opening.
-pub part_is : (m : ℕ) (input : List ℕ) → take (m - 0) input ≡ take m input
-part_is m input = let e : m - 0 ≡ m = omega arith in ap (λ (k : ℕ). take k input) e
 
 -- ---- The loop.
 
@@ -70,13 +44,6 @@ pub record Seeking (rule : ℕ → Rule) (v : ℕ) (input : List ℕ) (x : Pair)
   pub inside : m ≤ length input
   pub none_shorter : (j : ℕ) → j < m → Loops rule (take j input) x → ⊥
   pub between : Between v input T₀ T W₀ W
-
-pub seeking_begins : (rule : ℕ → Rule) (v : ℕ) (input : List ℕ) (x : Pair) (T W : List ℕ) → Seeking rule v input x T T W W 0
-seeking_begins rule v input x T W = record {
-  inside = omega arith;
-  none_shorter = λ j l. absurd (omega arith);
-  between = unchanged v input T W;
-}
 
 module _ {rule : ℕ → Rule} {v : ℕ} {input : List ℕ} {x : Pair} {T₀ T W₀ W : List ℕ} {m : ℕ} (seeking : Seeking rule v input x T₀ T W₀ W m) where
   module _ {s T' W' : List ℕ} (r : Bool) (asked-part : AskedLoop rule v s x T T' W W' r) (part : s ≡ take m input) where
@@ -104,15 +71,12 @@ module _ {rule : ℕ → Rule} {v : ℕ} {input : List ℕ} {x : Pair} {T₀ T W
     }
 
   -- Only the whole loops.
-  pub found_whole : length input ≤ m → Loops rule input x → Found rule v input x T₀ T W₀ W m
-  found_whole l h =
-      let k = seeking.inside in
-      let e : m ≡ length input = omega arith in
-      record {
-        shortest = record {
-          inside = omega arith;
-          loops = subst (λ (s : List ℕ). Loops rule s x) (sym (ap (λ (i : ℕ). take i input) e ∙ take-length input)) h;
-          none_shorter = seeking.none_shorter;
-        };
-        between = seeking.between;
-      }
+  pub found_whole : length input ≤ m → Loops rule input x → Found rule v input x T₀ T W₀ W (length input)
+  found_whole l h = record {
+    shortest = record {
+      inside = omega arith;
+      loops = subst (λ (s : List ℕ). Loops rule s x) (sym (take-length input)) h;
+      none_shorter = λ j k. seeking.none_shorter j (omega arith);
+    };
+    between = seeking.between;
+  }
