@@ -14,7 +14,7 @@ use Rattle.notation.specs.Emit.{Rules, Made, made, put, joined, bracketed, item_
 use Rattle.notation.specs.Scan.{Part, part, with_item, opened, choosing, scan, part_of}
 use Rattle.notation.specs.Text.{Bracket, opener, closer, Item, letter, quoted, fails, inside, empty, next, Choice, only, or, capital, item_cost, row_cost, choice_cost}
 use Rattle.pieces.specs.Store.{capped, Stored, StoredMade, Few, moved, Makes}
-use Rattle.pieces.specs.Piece.{begins_item, Moves, Refuses, Kind, items, rows, choices, Finds, Reads, EndsItem, EndsRow, EndsChoice, Ready}
+use Rattle.pieces.specs.Piece.{begins_item, Moves, Refuses, Kind, items, rows, choices, Finds, Reads, EndsItem, EndsRow, EndsChoice}
 use Rattle.pieces.specs.declared.Piece.{Piece}
 use Rattle.pieces.proofs.Bytes.{some_byte, closer_some}
 use Rattle.pieces.proofs.Scanning.{before_end, letter_moves, percent_moves, slash_moves, opens_bracket, closes_bracket, not_closed, quote_moves}
@@ -33,12 +33,6 @@ module _ (k : Kind) (s : List ℕ) (depth : ℕ) (from : Piece) (ws : List ℕ) 
   -- or a refusal.
   pub faulted : {x : Refusal} → r ≡ Err x → (y : k.Context) → Refuses s depth from.at (k.before y) x
   faulted e = subst (λ (o : Result Piece Refusal). Reads k s depth from ws Ends o ws') e g
-
--- A reader is ready at another piece, and at another depth.
-pub ready_at : (s numbers : List ℕ) (always depth deeper : ℕ) (from p : Piece) → Ready s numbers always depth from → deeper ≤ 16 → p.at ≤ length s → Few p
-    → Ready s numbers always deeper p
-ready_at s numbers always depth deeper from p r l i f =
-    record { inside = i; shallow = l; few = f; always_few = r.always_few; numbers_few = r.numbers_few }
 
 -- The numbers of a piece that is moved stop too.
 pub moved_few : (p : Piece) (at v by : ℕ) → Few p → v ≤ 257 → Few (moved p at v by)

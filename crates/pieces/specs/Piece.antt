@@ -80,17 +80,13 @@ abbrev pub EndsChoice : List ℕ → Piece → Type 0
 EndsChoice s p = EndsRow s p × (get_or s p.at 0 ≡ 47 → ⊥)
 
 -- What the readers ask for.
-pub record Ready (s numbers : List ℕ) (always depth : ℕ) (from : Piece) : Type 0 where
+pub record Ready (s : List ℕ) (depth : ℕ) (from : Piece) : Type 0 where
   pub inside : from.at ≤ length s
   pub shallow : depth ≤ 16
   pub few : Few from
-  pub always_few : always ≤ 256
-  pub numbers_few : (i : ℕ) → get_or numbers i 0 ≤ 256
 
 -- What the reader of an item that is no bracket asks for.
-pub record LeafReady (s numbers : List ℕ) (always : ℕ) (from : Piece) : Type 0 where
+pub record LeafReady (s : List ℕ) (from : Piece) : Type 0 where
   pub few : Few from
-  pub always_few : always ≤ 256
-  pub numbers_few : (i : ℕ) → get_or numbers i 0 ≤ 256
   pub begins : begins_item (get_or s from.at 0) ≡ true
   pub no_bracket : closing (get_or s from.at 0) ≡ None

@@ -10,8 +10,11 @@ ghost use Rattle.notation.specs.Text.{Bracket, closer};
 ghost use Rattle.pieces.specs.Store.{capped, number_held, Few, Makes};
 ghost use Rattle.pieces.specs.Piece.{closing, begins_item, items, rows, choices, Reads, EndsItem, EndsRow, EndsChoice, Ready, LeafReady};
 
+pub mod source;
+
 use grammar::refusal::Refusal;
 use grammar::sheet::Rules;
+use source::Source;
 
 // How deep brackets nest.
 const DEEPEST: u32 = 16;
@@ -164,96 +167,71 @@ fn read_quoted(s: &[u8], from: Piece, rules: &mut Rules) -> Result<Piece, Refusa
     Ok(with_rule(from.at + 3, priced, byte_word(*byte), rules))
 }
 
-// An item that is no bracket. Each item costs 3.
-fn read_leaf(
-    s: &[u8],
-    numbers: &[u32; 26],
-    always: u32,
-    from: Piece,
-    rules: &mut Rules,
-) -> Result<Piece, Refusal>
-    requires { LeafReady s.now numbers.now always from }
-    ensures { (depth : ℕ) → Reads (items (number_held numbers.now) always) s.now depth from rules.old (EndsItem from) result rules.new }
-{
-    match byte_at(s, from.at) {
-        b'\'' => read_quoted(s, from, rules),
-        b'%' => Ok(moved(from, from.at + 1, always + 1, 3)),
-        letter => {
-            let variable = numbers[usize::from(letter - b'A')];
-            Ok(moved(from, from.at + 1, variable, 3))
+impl Source<'_> {
+    // An item that is no bracket. Each item costs 3.
+    fn read_leaf(&self, from: Piece, rules: &mut Rules) -> Result<Piece, Refusal>
+        requires { LeafReady self.now.text.now from }
+        ensures { (depth : ℕ) → Reads (items (number_held self.now.numbers.now) self.now.always) self.now.text.now depth from rules.old (EndsItem from) result rules.new }
+    {
+        match byte_at(self.text, from.at) {
+            b'\'' => read_quoted(self.text, from, rules),
+            b'%' => Ok(moved(from, from.at + 1, self.always + 1, 3)),
+            letter => {
+                let variable = self.numbers[usize::from(letter - b'A')];
+                Ok(moved(from, from.at + 1, variable, 3))
+            }
         }
     }
-}
 
-// A choice: rows parted by slashes. It ends before any other byte, which the caller judges.
-#[cycle(read_choice_read_item_read_row)]
-pub fn read_choice(
-    s: &[u8],
-    numbers: &[u32; 26],
-    always: u32,
-    from: Piece,
-    depth: u32,
-    rules: &mut Rules,
-) -> Result<Piece, Refusal>
-    requires { Ready s.now numbers.now always depth from }
-    ensures { Reads (choices (number_held numbers.now) always) s.now depth from rules.old (EndsChoice s.now) result rules.new }
-{
-    let mut here = read_row(s, numbers, always, from, depth, rules)?;
-    while byte_at(s, here.at) == b'/' {
-        let next = moved(here, here.at + 1, here.variable, 1);
-        let row = read_row(s, numbers, always, next, depth, rules)?;
-        here = either(always, here, row, rules);
+    // A choice: rows parted by slashes. It ends before any other byte, which the caller judges.
+    #[cycle(read_choice_read_item_read_row)]
+    pub fn read_choice(&self, from: Piece, depth: u32, rules: &mut Rules) -> Result<Piece, Refusal>
+        requires { Ready self.now.text.now depth from }
+        ensures { Reads (choices (number_held self.now.numbers.now) self.now.always) self.now.text.now depth from rules.old (EndsChoice self.now.text.now) result rules.new }
+    {
+        let mut here = self.read_row(from, depth, rules)?;
+        while byte_at(self.text, here.at) == b'/' {
+            let next = moved(here, here.at + 1, here.variable, 1);
+            let row = self.read_row(next, depth, rules)?;
+            here = either(self.always, here, row, rules);
+        }
+        Ok(here)
     }
-    Ok(here)
-}
 
-// A row: items one after another, perhaps none. The empty row always succeeds.
-#[cycle(read_choice_read_item_read_row)]
-fn read_row(
-    s: &[u8],
-    numbers: &[u32; 26],
-    always: u32,
-    from: Piece,
-    depth: u32,
-    rules: &mut Rules,
-) -> Result<Piece, Refusal>
-    requires { Ready s.now numbers.now always depth from }
-    ensures { Reads (rows (number_held numbers.now) always) s.now depth from rules.old (EndsRow s.now) result rules.new }
-{
-    let mut here = Piece {
-        variable: always,
-        ..from
-    };
-    while begins_item(byte_at(s, here.at)) {
-        let item = read_item(s, numbers, always, here, depth, rules)?;
-        here = join(always, here, item, rules);
+    // A row: items one after another, perhaps none. The empty row always succeeds.
+    #[cycle(read_choice_read_item_read_row)]
+    fn read_row(&self, from: Piece, depth: u32, rules: &mut Rules) -> Result<Piece, Refusal>
+        requires { Ready self.now.text.now depth from }
+        ensures { Reads (rows (number_held self.now.numbers.now) self.now.always) self.now.text.now depth from rules.old (EndsRow self.now.text.now) result rules.new }
+    {
+        let mut here = Piece {
+            variable: self.always,
+            ..from
+        };
+        while begins_item(byte_at(self.text, here.at)) {
+            let item = self.read_item(here, depth, rules)?;
+            here = join(self.always, here, item, rules);
+        }
+        Ok(here)
     }
-    Ok(here)
-}
 
-// An item. "Brackets nest to 16."
-#[cycle(read_choice_read_item_read_row)]
-fn read_item(
-    s: &[u8],
-    numbers: &[u32; 26],
-    always: u32,
-    from: Piece,
-    depth: u32,
-    rules: &mut Rules,
-) -> Result<Piece, Refusal>
-    requires { Ready s.now numbers.now always depth from × (begins_item (get_or s.now from.at 0) ≡ true) }
-    ensures { Reads (items (number_held numbers.now) always) s.now depth from rules.old (EndsItem from) result rules.new }
-{
-    let Some(closing) = closer_of(byte_at(s, from.at)) else {
-        return read_leaf(s, numbers, always, from, rules);
-    };
-    if depth == DEEPEST {
-        return Err(Refusal::Nesting);
+    // An item. "Brackets nest to 16."
+    #[cycle(read_choice_read_item_read_row)]
+    fn read_item(&self, from: Piece, depth: u32, rules: &mut Rules) -> Result<Piece, Refusal>
+        requires { Ready self.now.text.now depth from × (begins_item (get_or self.now.text.now from.at 0) ≡ true) }
+        ensures { Reads (items (number_held self.now.numbers.now) self.now.always) self.now.text.now depth from rules.old (EndsItem from) result rules.new }
+    {
+        let Some(closing) = closer_of(byte_at(self.text, from.at)) else {
+            return self.read_leaf(from, rules);
+        };
+        if depth == DEEPEST {
+            return Err(Refusal::Nesting);
+        }
+        let inner = moved(from, from.at + 1, from.variable, 3);
+        let choice = self.read_choice(inner, depth + 1, rules)?;
+        if byte_at(self.text, choice.at) != closing {
+            return Err(Refusal::Text);
+        }
+        Ok(in_brackets(choice.at + 1, self.always, closing, choice, rules))
     }
-    let inner = moved(from, from.at + 1, from.variable, 3);
-    let choice = read_choice(s, numbers, always, inner, depth + 1, rules)?;
-    if byte_at(s, choice.at) != closing {
-        return Err(Refusal::Text);
-    }
-    Ok(in_brackets(choice.at + 1, always, closing, choice, rules))
 }

@@ -58,7 +58,7 @@ module _ (s numbers : List ℕ) (count : ℕ) (n : Numbers (firsts [] (capitals 
   pub few : count ≤ 26
   few = let l = letters_few s in let c = n.counted in omega arith
 
-  numbers_few : (i : ℕ) → get_or numbers i 0 ≤ 256
+  pub numbers_few : (i : ℕ) → get_or numbers i 0 ≤ 256
   numbers_few i = go (dec_lt i 26)
     where
       go : Dec (i < 26) → get_or numbers i 0 ≤ 256
@@ -71,19 +71,8 @@ module _ (s numbers : List ℕ) (count : ℕ) (n : Numbers (firsts [] (capitals 
           omega arith
       go (no d) = let z = n.size in let h : length numbers ≤ i = omega arith in omega (arith, get_or-eq_default numbers 0 h)
 
-  pub lines_ready : LinesReady s numbers (count + 1) (beginning count)
-  lines_ready =
-      let l = few in
-      record {
-        begins = refl;
-        ready = record {
-          inside = omega arith;
-          shallow = omega arith;
-          few = record { variable_few = omega arith; last_few = omega arith; cost_few = omega arith };
-          always_few = omega arith;
-          numbers_few = numbers_few;
-        };
-      }
+  pub lines_ready : LinesReady s (beginning count)
+  lines_ready = let l = few in record { begins = refl; few = record { variable_few = omega arith; last_few = omega arith; cost_few = omega arith } }
 
   module _ (u : Bytes s) (ws : List ℕ) (p : Piece) (f : LinesFound (number_held numbers) (count + 1) s (beginning count) (first_words count) p ws) where
     abbrev ls : List Line

@@ -14,11 +14,10 @@ use Rattle.notation.specs.Scan.{before, finish, scan, lines_of}
 use Rattle.notation.specs.Text.{Line, line, cost}
 use Rattle.notation.proofs.OneMore.{cost_more, rules_more}
 use Rattle.letters.proofs.Lettered.{index_in}
-use Rattle.pieces.specs.Piece.{Ready}
 use Rattle.pieces.specs.Store.{capped, Stored, Few}
 use Rattle.pieces.specs.declared.Piece.{Piece}
 use Rattle.pieces.proofs.Scanning.{at_end_law}
-use Rattle.shorthand.specs.Lines.{Defines, LineReady, LineFinds, LineReads, LinesFound}
+use Rattle.shorthand.specs.Lines.{Defines, LineFinds, LineReads, LinesFound}
 
 -- No letter has a line yet.
 defines_none : {lines : List Bool} → lines ≡ replicate 26 false → Defines [] lines
@@ -57,12 +56,6 @@ module _ (number : ℕ → ℕ) (E : ℕ) (s : List ℕ) (from : Piece) (ws₀ :
   }
 
   module _ {here : Piece} {lines : List Bool} {ws : List ℕ} (g : Going here lines ws) where
-    pub line_ready : {numbers : List ℕ} {always : ℕ} → Ready s numbers always 0 from → here.at < length s → LineReady s numbers always here
-    line_ready r l = record {
-      inside = l;
-      ready = record { inside = g.inside; shallow = r.shallow; few = g.few; always_few = r.always_few; numbers_few = r.numbers_few };
-    }
-
     -- One line more,
     pub goes_on : {next : Piece} {lines' : List Bool} {ws' : List ℕ} → LineFinds number E s here lines ws next lines' ws' → Going next lines' ws'
     goes_on f =

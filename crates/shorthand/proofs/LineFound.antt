@@ -2,7 +2,7 @@
 use mathlib.Core.Bool.{Bool, true}
 use mathlib.Core.List.{List, []}
 use mathlib.Core.Path.{◌≡◌, refl, ◌∙◌}
-use Prim.Native.Nat.{ℕ, ◌+◌, ◌-◌}
+use Prim.Native.Nat.{ℕ, ◌+◌, ◌-◌, ◌≤◌}
 use native.Mathlib.Omega.{arith}
 use lib.ListN.{get_or, set, drop}
 use Rattle.grammar.specs.Numbers.{number_of, line_of}
@@ -26,18 +26,15 @@ behind_equals E from = record { at = from.at + 2; variable = E; last = from.last
 abbrev pub behind_line : Piece → Piece
 behind_line p = record { at = p.at + 1; variable = p.variable; last = p.last; cost = p.cost }
 
-module _ (numbers : List ℕ) (E : ℕ) (s : List ℕ) (from : Piece) (lines : List Bool) (r : LineReady s numbers E from) (o : Opens s from.at lines) where
-  pub choice_ready : Ready s numbers E 0 (behind_equals E from)
-  choice_ready =
+module _ (numbers : List ℕ) (E : ℕ) (s : List ℕ) (from : Piece) (lines : List Bool) (r : LineReady s from) (o : Opens s from.at lines) where
+  pub choice_ready : E ≤ 256 → Ready s 0 (behind_equals E from)
+  choice_ready a =
       let l = before_end s (from.at + 1) 61 (omega arith) o.equals in
-      let f = r.ready.few in
-      let a = r.ready.always_few in
+      let f = r.few in
       record {
         inside = omega arith;
         shallow = omega arith;
         few = record { variable_few = omega arith; last_few = f.last_few; cost_few = f.cost_few };
-        always_few = a;
-        numbers_few = r.ready.numbers_few;
       }
 
   -- Its choice is refused.

@@ -8,7 +8,6 @@ use Rattle.grammar.specs.Words.{words}
 use Rattle.notation.specs.Emit.{Rules, with, choice_rules, ruled, line_rules}
 use Rattle.notation.specs.Scan.{before, defined, scan, lines_of}
 use Rattle.notation.specs.Text.{Choice, Line, line, choice_cost, cost, capital}
-use Rattle.pieces.specs.Piece.{Ready}
 use Rattle.pieces.specs.Store.{capped, Stored, Few}
 use Rattle.pieces.specs.declared.Piece.{Piece}
 
@@ -27,9 +26,9 @@ Names number E y ws ws' = (f : ℕ → Rule) → ws ≡ words f → ws' ≡ word
 
 -- ---- One line.
 
-pub record LineReady (s numbers : List ℕ) (always : ℕ) (from : Piece) : Type 0 where
+pub record LineReady (s : List ℕ) (from : Piece) : Type 0 where
   pub inside : from.at < length s
-  pub ready : Ready s numbers always 0 from
+  pub few : Few from
 
 -- By the variable of each capital, and E, the variable that always succeeds; the one behind E always fails.
 module _ (number : ℕ → ℕ) (E : ℕ) where
@@ -52,9 +51,9 @@ module _ (number : ℕ → ℕ) (E : ℕ) where
 
 -- ---- All lines.
 
-pub record LinesReady (s numbers : List ℕ) (always : ℕ) (from : Piece) : Type 0 where
+pub record LinesReady (s : List ℕ) (from : Piece) : Type 0 where
   pub begins : from.at ≡ 0
-  pub ready : Ready s numbers always 0 from
+  pub few : Few from
 
 module _ (number : ℕ → ℕ) (E : ℕ) where
   -- The lines of the text, their cost, and their rules.

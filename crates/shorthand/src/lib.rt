@@ -9,7 +9,8 @@ ghost use Rattle.shorthand.specs.Promise.{EndReady, Ends, CompilePromise};
 use grammar::refusal::Refusal;
 use grammar::sheet::Rules;
 use letters::number_letters;
-use pieces::{Piece, byte_at, call_word, read_choice};
+use pieces::source::Source;
+use pieces::{Piece, byte_at, call_word};
 use printing::write_sheet;
 
 // Does a line of a letter begin here that has none yet? `lines` says which letters have one.
@@ -37,31 +38,30 @@ fn name_choice(number: u32, always: u32, choice: Piece, rules: &mut Rules)
 
 // A line: a letter, `=`, a choice and byte 10.
 fn read_line(
-    s: &[u8],
-    numbers: &[u32; 26],
-    always: u32,
+    source: &Source,
     from: Piece,
     lines: &mut [bool; 26],
     rules: &mut Rules,
 ) -> Result<Piece, Refusal>
-    requires { LineReady s.now numbers.now always from }
-    ensures { LineReads (number_held numbers.now) always s.now from lines.old rules.old result lines.new rules.new }
+    requires { LineReady source.now.text.now from }
+    ensures { LineReads (number_held source.now.numbers.now) source.now.always source.now.text.now from lines.old rules.old result lines.new rules.new }
 {
-    if !opens_line(s, from.at, lines) {
+    let text = source.text;
+    if !opens_line(text, from.at, lines) {
         return Err(Refusal::Text);
     }
     let start = Piece {
         at: from.at + 2,
-        variable: always,
+        variable: source.always,
         ..from
     };
-    let choice = read_choice(s, numbers, always, start, 0, rules)?;
-    if byte_at(s, choice.at) != b'\n' {
+    let choice = source.read_choice(start, 0, rules)?;
+    if byte_at(text, choice.at) != b'\n' {
         return Err(Refusal::Text);
     }
-    let index = usize::from(s[from.at] - b'A');
+    let index = usize::from(text[from.at] - b'A');
     lines[index] = true;
-    name_choice(numbers[index], always, choice, rules);
+    name_choice(source.numbers[index], source.always, choice, rules);
     Ok(Piece {
         at: choice.at + 1,
         ..choice
@@ -69,23 +69,17 @@ fn read_line(
 }
 
 // All lines of a text.
-fn read_lines(
-    s: &[u8],
-    numbers: &[u32; 26],
-    always: u32,
-    from: Piece,
-    rules: &mut Rules,
-) -> Result<Piece, Refusal>
-    requires { LinesReady s.now numbers.now always from }
-    ensures { LinesRead (number_held numbers.now) always s.now from rules.old result rules.new }
+fn read_lines(source: &Source, from: Piece, rules: &mut Rules) -> Result<Piece, Refusal>
+    requires { LinesReady source.now.text.now from }
+    ensures { LinesRead (number_held source.now.numbers.now) source.now.always source.now.text.now from rules.old result rules.new }
 {
-    if s.is_empty() {
+    if source.text.is_empty() {
         return Err(Refusal::Text);
     }
     let mut lines = [false; 26];
     let mut here = from;
-    while here.at < s.len() {
-        here = read_line(s, numbers, always, here, &mut lines, rules)?;
+    while here.at < source.text.len() {
+        here = read_line(source, here, &mut lines, rules)?;
     }
     Ok(here)
 }
@@ -120,6 +114,11 @@ pub fn compile(text: &[u8], out: &mut [u8]) -> Result<usize, Refusal>
         last: count + 2,
         cost: count + 2,
     };
-    let read = read_lines(text, &numbers, count + 1, first, &mut rules)?;
+    let source = Source {
+        text,
+        numbers: &numbers,
+        always: count + 1,
+    };
+    let read = read_lines(&source, first, &mut rules)?;
     write_rules(read, &rules, out)
 }

@@ -1,7 +1,10 @@
 use native.Mathlib.Omega.{arith}
 use Rattle.std.proofs.lemmas.Result.{err_from_is_err_and}
-use Rattle.shorthand.proofs.Compiling.{lines_ready, end_ready, compiled, compile_refused}
+use Rattle.shorthand.proofs.Compiling.{numbers_few, lines_ready, end_ready, compiled, compile_refused}
 use Rattle.shorthand.proofs.compile.Goals as goal
+
+pub invariant_of-source-clause-numbers_few : goal.invariant_of-source-clause-numbers_few
+invariant_of-source-clause-numbers_few c = numbers_few _ _ _ c.number_letters-count.ensures
 
 pub read_lines-requires : goal.read_lines-requires
 read_lines-requires c = lines_ready _ _ _ c.number_letters-count.ensures

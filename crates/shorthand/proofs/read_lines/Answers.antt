@@ -9,7 +9,7 @@ pub returns-then-is_empty : goal.returns-then-is_empty
 returns-then-is_empty c = empty_text _ (eqb-true _ 0 (sym c.if-is_empty.ensures))
 
 pub loop-here-init : goal.loop-here-init
-loop-here-init c = begins _ _ _ _ _ c.requires.begins c.requires.ready.few refl
+loop-here-init c = begins _ _ _ _ _ c.requires.begins c.requires.few refl
 
 pub loop-here-preserved : goal.loop-here-preserved
 loop-here-preserved c = goes_on _ _ _ _ _ c.loop-here.invariant c.in_ok-here.ensures
