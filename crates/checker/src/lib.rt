@@ -308,5 +308,12 @@ pub fn check(
 {
     let mut rules: Rules = [0u32; 256];
     let grammar = admit(sheet, input, variable, position, &mut rules)?;
-    judge(&rules, grammar.variables, input, variable, position, certificate)
+    judge(
+        &rules,
+        grammar.variables,
+        input,
+        variable,
+        position,
+        certificate,
+    )
 }
