@@ -13,13 +13,12 @@ use Rattle.schema.specs.Cells.{held_at, reach_at, cell_at}
 use Rattle.schema.specs.Derivation.{◌at◌}
 use Rattle.kept.specs.Some.{some}
 use Rattle.kept.proofs.Some.{some_each}
-use Rattle.archive.specs.Archive.{told, Moved, StorePromise}
+use Rattle.std.specs.Prelude.{Ok}
+use Rattle.archive.specs.Archive.{Stored, told, Moved, StorePromise}
 use Rattle.archive.specs.Layout.{by_variable, by_position, cell_in}
 use Rattle.archive.specs.Refusals.{archive_condition, movable}
 use Rattle.archive.specs.StoredTable.{RoundTrip}
 use Rattle.archive.specs.Tally.{outcomes, tally}
-use Rattle.archive.specs.declared.Stored.{Stored}
-use Rattle.archive.specs.declared.Stored.TheVariants.{Done}
 use Rattle.archive.proofs.Promised.{done_where, then_moved, stored_table}
 
 -- H, `-6.`: a row of four cells for each of the six variables, each cell an outcome and its reach.
@@ -78,8 +77,8 @@ case_a_trip = record {
   target = stored_a;
   stored = stored_a;
   again = table_a;
-  one = Done;
-  other = Done;
+  one = Ok tt;
+  other = Ok tt;
   stores = (refl, storing);
   done = refl;
   room = omega arith;

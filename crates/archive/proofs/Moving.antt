@@ -1,17 +1,15 @@
 -- The cells of a table moved from one layout to the other: rows turned into columns. Assumes nothing.
 use mathlib.Core.List.{List}
-use mathlib.Core.Path.{◌≡◌, refl, sym, ap, ◌∙◌, subst}
+use mathlib.Core.Path.{◌≡◌, sym, ap, ◌∙◌}
 use Prim.Native.Nat.{ℕ, ◌+◌, ◌-◌, ◌*◌}
 use native.Mathlib.Nat.{mul_comm}
 use native.Mathlib.Omega.{arith}
 use lib.ListN.{length, drop}
 use Rattle.grammar.specs.Refusal.{Checked, refused, accepted}
-use Rattle.archive.specs.Archive.{told, Moved, Unless, MovePromise}
+use Rattle.archive.specs.Archive.{Stored, told, Moved, Unless, MovePromise}
 use Rattle.archive.specs.Layout.{Layout, by_variable, by_position}
 use Rattle.archive.specs.Refusals.{movable}
 use Rattle.archive.specs.Turn.{TurnReady, Turned, Sides, TurnPromise}
-use Rattle.archive.specs.declared.Stored.{Stored}
-use Rattle.archive.specs.declared.Stored.TheVariants.{Done, Refused}
 use Rattle.archive.proofs.Refusing.{clear}
 
 module _ (v n : ℕ) (S T : List ℕ) where
@@ -50,18 +48,8 @@ module _ (v n : ℕ) (S T : List ℕ) where
     size = t.size;
   }
 
--- ---- From the test to the promise of a turned table,
+-- ---- From the promise of a turned table to that of moved cells.
 
-module _ (v n rows columns : ℕ) (S T : List ℕ) {q : Stored} (admits : told q ≡ movable v n (length S) (length T)) where
-  pub turns_none : {x l : ℕ} → q ≡ Refused x l → TurnPromise v n rows columns S T T (Refused x l)
-  turns_none {x} {l} e =
-      subst (λ (o : Checked (Unit {0})). Unless o (Turned rows columns 0 columns S T T) T T (refused x l)) (sym (ap told e) ∙ admits) (refl, refl)
-
-  pub turns_all : {T' : List ℕ} → q ≡ Done → Turned rows columns 0 columns S T T' → TurnPromise v n rows columns S T T' Done
-  turns_all {T'} e t =
-      subst (λ (o : Checked (Unit {0})). Unless o (Turned rows columns 0 columns S T T') T T' (accepted tt)) (sym (ap told e) ∙ admits) (refl, t)
-
--- and to that of moved cells.
 pub moves_by : (from to : Layout) (v n rows columns : ℕ) (S T T' : List ℕ) (r : Stored) → (Turned rows columns 0 columns S T T' → Moved from to v n S T T')
     → TurnPromise v n rows columns S T T' r → MovePromise from to v n S T T' r
 moves_by from to v n rows columns S T T' r moves = by_test (movable v n (length S) (length T))

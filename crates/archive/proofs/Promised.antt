@@ -10,11 +10,10 @@ use Rattle.schema.specs.Cells.{cell_at}
 use Rattle.schema.specs.Table.{cells}
 use Rattle.schema.proofs.SameCells.{same_cells}
 use Rattle.kept.proofs.FirstCells.{joined, joined_cell, joined_later, joined_length}
-use Rattle.archive.specs.Archive.{told, Moved, Unless, MovePromise}
+use Rattle.archive.specs.Archive.{Stored, told, Moved, Unless, MovePromise}
 use Rattle.archive.specs.Layout.{Layout}
 use Rattle.archive.specs.Refusals.{ArchiveRefuses, movable}
 use Rattle.archive.specs.StoredTable.{StoredTable}
-use Rattle.archive.specs.declared.Stored.{Stored}
 use Rattle.archive.proofs.Layouts.{pair_in}
 use Rattle.archive.proofs.Refusing.{Clear, clear, movable_refused, movable_where, refusal_small}
 use Rattle.archive.proofs.Tallied.{tallied}

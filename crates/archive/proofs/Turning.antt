@@ -3,9 +3,9 @@ use mathlib.Core.Bool.{Bool, true, false}
 use mathlib.Core.List.{List}
 use mathlib.Core.Logic.{◌≢◌}
 use mathlib.Core.Path.{◌≡◌, refl, sym, ap, ap₂, ◌∙◌, subst}
-use Prim.Native.Nat.{ℕ, ◌+◌, ◌-◌, ◌*◌, ◌≤◌, ◌<◌}
+use Prim.Native.Nat.{ℕ, ◌+◌, ◌-◌, ◌*◌, ◌/◌, ◌≤◌, ◌<◌}
 use native.Mathlib.Decide.{ℕ_discrete}
-use native.Mathlib.Nat.{zero-mul, suc-mul, add-mul, mul-le-mul_right, mul-le-mul}
+use native.Mathlib.Nat.{zero-mul, suc-mul, add-mul, mul-le-mul_right, mul-le-mul, div-add-mod', mod-lt}
 use native.Mathlib.Numerals.{add-one}
 use native.Mathlib.Omega.{arith}
 use lib.Dec.{ltb}
@@ -17,7 +17,7 @@ use Rattle.schema.proofs.Cells.{stored_cell, cell_elsewhere, stored_later, store
 use Rattle.archive.specs.Turn.{AcrossReady, Across, BlockReady, BlockTurned, BlocksReady, BlocksTurned, Turned}
 
 -- The next row begins a row further on.
-next_row : (i k : ℕ) → (i + 1) * k ≡ i * k + k
+pub next_row : (i k : ℕ) → (i + 1) * k ≡ i * k + k
 next_row i k = ap (λ (a : ℕ). a * k) (add-one i) ∙ suc-mul i k
 
 -- ---- One cell: what is loaded of one table is stored in the other.
@@ -43,247 +43,161 @@ one_place k l i j rows h g e = elim (ℕ_discrete k l) [
 
 -- ---- One row of a block.
 
--- So many cells are copied, and the next goes to a number.
-pub record Copying (rows width start row from : ℕ) (S T₀ T : List ℕ) (copied to : ℕ) : Type 0 where
-  pub inside : copied ≤ width
-  pub goes : to ≡ start + (copied * rows + row)
-  pub done : Across rows width start row from copied S T₀ T
+pub across_begins : (rows width start row from : ℕ) (S T : List ℕ) → Across rows width start row from 0 S T T
+across_begins rows width start row from S T =
+    record { copies = λ k l. absurd (omega arith); others = λ k i h d. refl; before = λ k l. refl; later = refl; size = refl }
 
-pub copying_begins : (rows width start row from : ℕ) (S T : List ℕ) → Copying rows width start row from S T T 0 (start + row)
-copying_begins rows width start row from S T = record {
-  inside = omega arith;
-  goes = let z = zero-mul rows in omega arith;
-  done = record { copies = λ k l. absurd (omega arith); others = λ k i h d. refl; before = λ k l. refl; later = refl; size = refl };
-}
+module _ {rows width start row from : ℕ} {S T₀ T : List ℕ} {copied : ℕ} (ready : AcrossReady rows width start row from S T₀)
+    (done : Across rows width start row from copied S T₀ T) (left : copied < width) where
+  -- The number that the next cell goes to.
+  abbrev to : ℕ
+  to = start + (copied * rows + row)
 
-module _ {rows width start row from : ℕ} {S T₀ T : List ℕ} {copied to : ℕ} (ready : AcrossReady rows width start row from S T₀)
-    (copying : Copying rows width start row from S T₀ T copied to) where
-  -- The number of the next cell is small,
-  pub from_small : from + copied ≤ length S
-  from_small = let a = ready.source_room in let b = copying.inside in omega arith
+  pub inside_block : copied * rows + row < width * rows
+  inside_block = let a = rows_apart copied width rows left in let b = ready.inside in omega arith
 
-  module _ (left : copied < width) where
-    inside_block : copied * rows + row < width * rows
-    inside_block = let a = rows_apart copied width rows left in let b = ready.inside in omega arith
+  -- It lies in both tables.
+  pub cell_inside : HasCell S (from + copied) × HasCell T to
+  cell_inside =
+      let a = ready.source_room in
+      let b = ready.target_room in
+      let c = inside_block in
+      let z = done.size in
+      (omega arith, omega arith)
 
-    -- it lies in both tables,
-    pub cell_inside : HasCell S (from + copied) × HasCell T to
-    cell_inside =
-        let a = ready.source_room in
-        let b = ready.target_room in
-        let c = inside_block in
-        let e = copying.goes in
-        let z = copying.done.size in
-        (omega arith, omega arith)
+  module _ {T' : List ℕ} (copies : T' ≡ stored T to (held_at S (from + copied)) (reach_at S (from + copied))) where
+    new_cell : cell_at T' to ≡ cell_at S (from + copied)
+    new_cell = ap (λ (U : List ℕ). cell_at U to) copies ∙ stored_cell T to (held_at S (from + copied)) (reach_at S (from + copied)) cell_inside.1
 
-    -- and so is the one after it in the target.
-    pub to_small : 2 * to + rows ≤ length T₀ + 4097
-    to_small =
-        let a = ready.target_room in
-        let b = ready.few_rows in
-        let c = inside_block in
-        let e = copying.goes in
-        omega arith
+    old_cell : (k : ℕ) → k ≢ to → cell_at T' k ≡ cell_at T k
+    old_cell k d = ap (λ (U : List ℕ). cell_at U k) copies ∙ cell_elsewhere T to k (held_at S (from + copied)) (reach_at S (from + copied)) d
 
-    module _ {T' : List ℕ} (copies : T' ≡ stored T to (held_at S (from + copied)) (reach_at S (from + copied))) where
-      new_cell : cell_at T' (start + (copied * rows + row)) ≡ cell_at S (from + copied)
-      new_cell =
-          ap (λ (i : ℕ). cell_at T' i) (sym copying.goes) ∙ ap (λ (U : List ℕ). cell_at U to) copies
-          ∙ stored_cell T to (held_at S (from + copied)) (reach_at S (from + copied)) cell_inside.1
+    -- Another cell of the block.
+    other_cell : (k i : ℕ) → i < rows → ((k ≡ copied) × (i ≡ row) → ⊥) → cell_at T' (start + (k * rows + i)) ≡ cell_at T (start + (k * rows + i))
+    other_cell k i h d = old_cell (start + (k * rows + i)) (λ q. d (one_place k copied i row rows h ready.inside (omega arith)))
 
-      old_cell : (k : ℕ) → k ≢ to → cell_at T' k ≡ cell_at T k
-      old_cell k d = ap (λ (U : List ℕ). cell_at U k) copies ∙ cell_elsewhere T to k (held_at S (from + copied)) (reach_at S (from + copied)) d
-
-      -- Another cell of the block.
-      other_cell : (k i : ℕ) → i < rows → ((k ≡ copied) × (i ≡ row) → ⊥) → cell_at T' (start + (k * rows + i)) ≡ cell_at T (start + (k * rows + i))
-      other_cell k i h d =
-          let e = copying.goes in
-          old_cell (start + (k * rows + i)) (λ q. d (one_place k copied i row rows h ready.inside (omega arith)))
-
-      pub copying_goes_on : Copying rows width start row from S T₀ T' (copied + 1) (to + rows)
-      copying_goes_on = record {
-        inside = omega arith;
-        goes = let e = copying.goes in let n = next_row copied rows in omega arith;
-        done = record {
-          copies = λ k l. elim (ℕ_discrete k copied) [
-            | yes e ↦ rw e new_cell
-            | no d ↦ other_cell k row ready.inside (λ q. d q.0) ∙ copying.done.copies k (omega arith)
-          ];
-          others = λ k i h d. other_cell k i h (λ q. d q.1) ∙ copying.done.others k i h d;
-          before = λ k l. let e = copying.goes in old_cell k (λ q. omega arith) ∙ copying.done.before k l;
-          later =
-              let N = start + width * rows in
-              let a = inside_block in
-              let e = copying.goes in
-              ap (drop (2 * N)) copies ∙ stored_later N T to (held_at S (from + copied)) (reach_at S (from + copied)) (omega arith) ∙ copying.done.later;
-          size = ap length copies ∙ stored_length T to (held_at S (from + copied)) (reach_at S (from + copied)) ∙ copying.done.size;
-        };
-      }
-
-pub copying_ends : {rows width start row from : ℕ} {S T₀ T : List ℕ} {copied to : ℕ} → width ≤ copied → Copying rows width start row from S T₀ T copied to
-    → Across rows width start row from width S T₀ T
-copying_ends {rows} {width} {start} {row} {from} {S} {T₀} {T} {copied} l c =
-    let m = c.inside in
-    let e : copied ≡ width = omega arith in
-    subst (λ (k : ℕ). Across rows width start row from k S T₀ T) e c.done
+    pub across_goes_on : Across rows width start row from (copied + 1) S T₀ T'
+    across_goes_on = record {
+      copies = λ k l. elim (ℕ_discrete k copied) [
+        | yes e ↦ rw e new_cell
+        | no d ↦ other_cell k row ready.inside (λ q. d q.0) ∙ done.copies k (omega arith)
+      ];
+      others = λ k i h d. other_cell k i h (λ q. d q.1) ∙ done.others k i h d;
+      before = λ k l. old_cell k (λ q. omega arith) ∙ done.before k l;
+      later =
+          let N = start + width * rows in
+          let a = inside_block in
+          ap (drop (2 * N)) copies ∙ stored_later N T to (held_at S (from + copied)) (reach_at S (from + copied)) (omega arith) ∙ done.later;
+      size = ap length copies ∙ stored_length T to (held_at S (from + copied)) (reach_at S (from + copied)) ∙ done.size;
+    }
 
 -- ---- One block.
 
--- So many rows of it are copied, and the next comes from a number.
-pub record BlockTurning (rows columns column width start : ℕ) (S T₀ T : List ℕ) (row from : ℕ) : Type 0 where
-  pub inside : row ≤ rows
-  pub comes : from ≡ row * columns + column
-  pub done : BlockTurned rows columns column width start row S T₀ T
+pub block_begins : (rows columns column width start : ℕ) (S T : List ℕ) → BlockTurned rows columns column width start 0 S T T
+block_begins rows columns column width start S T = record { turns = λ k i l h. absurd (omega arith); before = λ k l. refl; later = refl; size = refl }
 
-pub block_begins : (rows columns column width start : ℕ) (S T : List ℕ) → BlockTurning rows columns column width start S T T 0 column
-block_begins rows columns column width start S T = record {
-  inside = omega arith;
-  comes = let z = zero-mul columns in omega arith;
-  done = record { turns = λ k i l h. absurd (omega arith); before = λ k l. refl; later = refl; size = refl };
-}
-
-module _ {rows columns column width start : ℕ} {S T₀ T : List ℕ} {row from : ℕ} (ready : BlockReady rows columns column width start S T₀)
-    (turning : BlockTurning rows columns column width start S T₀ T row from) (left : row < rows) where
+module _ {rows columns column width start : ℕ} {S T₀ T : List ℕ} {row : ℕ} (ready : BlockReady rows columns column width start S T₀)
+    (done : BlockTurned rows columns column width start row S T₀ T) (left : row < rows) where
   -- What the next row is handed.
-  pub across_ready : AcrossReady rows width start row from S T
+  pub across_ready : AcrossReady rows width start row (row * columns + column) S T
   across_ready =
       let a = rows_apart row rows columns left in
       let b = ready.inside in
       let c = ready.source_room in
-      let e = turning.comes in
       record {
         few_rows = ready.few_rows;
         few = let f = ready.few_columns in omega arith;
         inside = left;
         source_room = omega arith;
-        target_room = let d = ready.target_room in let z = turning.done.size in omega arith;
+        target_room = let d = ready.target_room in let z = done.size in omega arith;
       }
 
-  pub next_small : from + columns ≤ 20000000
-  next_small =
-      let e = turning.comes in
-      let l : row ≤ 4097 = omega (arith, ready.few_rows) in
-      let a : row * columns ≤ 4097 * 4097 = mul-le-mul l ready.few_columns in
-      let b = ready.inside in
-      let c = ready.few_columns in
-      omega arith
-
-  pub block_goes_on : {T' : List ℕ} → Across rows width start row from width S T T' → BlockTurning rows columns column width start S T₀ T' (row + 1) (from + columns)
+  pub block_goes_on : {T' : List ℕ} → Across rows width start row (row * columns + column) width S T T' → BlockTurned rows columns column width start (row + 1) S T₀ T'
   block_goes_on across = record {
-    inside = omega arith;
-    comes = let e = turning.comes in let n = next_row row columns in omega arith;
-    done = record {
-      turns = λ k i l h. elim (ℕ_discrete i row) [
-        | yes e ↦ let f = turning.comes in
-            let q : from + k ≡ row * columns + (column + k) = omega arith in
-            rw e (across.copies k l ∙ ap (λ (a : ℕ). cell_at S a) q)
-        | no d ↦ across.others k i (omega arith) d ∙ turning.done.turns k i l (omega arith)
-      ];
-      before = λ k l. across.before k l ∙ turning.done.before k l;
-      later = across.later ∙ turning.done.later;
-      size = across.size ∙ turning.done.size;
-    };
+    turns = λ k i l h. elim (ℕ_discrete i row) [
+      | yes e ↦ let q : row * columns + column + k ≡ row * columns + (column + k) = omega arith in
+          rw e (across.copies k l ∙ ap (λ (a : ℕ). cell_at S a) q)
+      | no d ↦ across.others k i (omega arith) d ∙ done.turns k i l (omega arith)
+    ];
+    before = λ k l. across.before k l ∙ done.before k l;
+    later = across.later ∙ done.later;
+    size = across.size ∙ done.size;
   }
-
-pub block_ends : {rows columns column width start : ℕ} {S T₀ T : List ℕ} {row from : ℕ} → rows ≤ row → BlockTurning rows columns column width start S T₀ T row from
-    → BlockTurned rows columns column width start rows S T₀ T
-block_ends {rows} {columns} {column} {width} {start} {S} {T₀} {T} {row} l t =
-    let m = t.inside in
-    let e : row ≡ rows = omega arith in
-    subst (λ (k : ℕ). BlockTurned rows columns column width start k S T₀ T) e t.done
 
 -- ---- Block by block.
 
--- The number of a row's first cell is small.
-pub row_small : {rows columns first width : ℕ} {S T : List ℕ} → BlocksReady rows columns first width S T → (k : ℕ) → k ≤ 4097 → k * rows ≤ 4097 * 4097
-row_small ready k l = mul-le-mul l ready.room.few_rows
+-- So many whole blocks are left from the first column on.
+module _ {rows columns first width : ℕ} {S T : List ℕ} (ready : BlocksReady rows columns first width S T) where
+  abbrev blocks : ℕ
+  blocks = (columns - first) / width
 
--- The columns from the first on are turned up to one, whose row begins at a number.
-pub record Turning (rows columns first : ℕ) (S T₀ T : List ℕ) (column start : ℕ) : Type 0 where
-  pub from_first : first ≤ column
-  pub inside : column ≤ columns
-  pub begins : start ≡ column * rows
-  pub done : Turned rows columns first column S T₀ T
+  pub blocks_inside : first + blocks * width ≤ columns
+  blocks_inside = let l = ready.inside in let d = div-add-mod' (columns - first) width in omega arith
 
-pub turning_begins : (rows columns first : ℕ) (S T : List ℕ) → first ≤ columns → Turning rows columns first S T T first (first * rows)
-turning_begins rows columns first S T l = record {
-  from_first = omega arith;
-  inside = l;
-  begins = refl;
-  done = record { turns = λ i j h m k. absurd (omega arith); before = λ k h. refl; later = refl; size = refl };
-}
+  pub blocks_last : columns < first + blocks * width + width
+  blocks_last = let d = div-add-mod' (columns - first) width in let r = mod-lt (columns - first) {m = width} ready.some in omega arith
 
-module _ {rows columns first width : ℕ} {S T₀ T : List ℕ} {column start : ℕ} (ready : BlocksReady rows columns first width S T₀)
-    (turning : Turning rows columns first S T₀ T column start) (left : column + width ≤ columns) where
-  next_start : start + width * rows ≡ (column + width) * rows
-  next_start = let e = turning.begins in let n = add-mul column width rows in omega arith
+  pub block_inside : (block : ℕ) → block < blocks → first + block * width + width ≤ columns
+  block_inside block l = let a = rows_apart block blocks width l in let b = blocks_inside in omega arith
 
-  start_inside : 2 * (start + width * rows) ≤ length T₀
-  start_inside =
-      let e = next_start in
-      let a : (column + width) * rows ≤ columns * rows = mul-le-mul_right rows left in
-      let b = ready.room.target_room in
-      omega arith
+  -- The number of a row's first cell is small.
+  pub row_small : (k : ℕ) → k ≤ columns → k * rows ≤ 4097 * 4097
+  row_small k l = let m = ready.room.few_columns in let few : k ≤ 4097 = omega arith in mul-le-mul few ready.room.few_rows
+
+-- The columns from the first on are turned up to one.
+pub turning_begins : (rows columns first : ℕ) (S T : List ℕ) → Turned rows columns first first S T T
+turning_begins rows columns first S T = record { turns = λ i j h m k. absurd (omega arith); before = λ k h. refl; later = refl; size = refl }
+
+module _ {rows columns first width : ℕ} {S T₀ T : List ℕ} {column : ℕ} (ready : BlocksReady rows columns first width S T₀)
+    (turned : Turned rows columns first column S T₀ T) (from_first : first ≤ column) (left : column + width ≤ columns) where
+  next_start : column * rows + width * rows ≡ (column + width) * rows
+  next_start = let n = add-mul column width rows in omega arith
 
   -- What the next block is handed.
-  pub block_ready : BlockReady rows columns column width start S T
+  pub block_ready : BlockReady rows columns column width (column * rows) S T
   block_ready = record {
     few_rows = ready.room.few_rows;
     few_columns = ready.room.few_columns;
     inside = left;
     source_room = ready.room.source_room;
-    target_room = let a = start_inside in let z = turning.done.size in omega arith;
+    target_room =
+        let e = next_start in
+        let a : (column + width) * rows ≤ columns * rows = mul-le-mul_right rows left in
+        let b = ready.room.target_room in
+        let z = turned.size in
+        omega arith;
   }
 
-  pub next_start_fits : start + width * rows ≤ length T₀
-  next_start_fits = let a = start_inside in omega arith
+  module _ {T' : List ℕ} (block : BlockTurned rows columns column width (column * rows) rows S T T') where
+    -- A column of the block.
+    in_block : (i j : ℕ) → i < rows → column ≤ j → j < column + width → cell_at T' (j * rows + i) ≡ cell_at S (i * columns + j)
+    in_block i j h l m =
+        let q : column + (j - column) ≡ j = omega arith in
+        let n = add-mul column (j - column) rows in
+        let p = ap (λ (a : ℕ). a * rows) q in
+        let e : j * rows + i ≡ column * rows + ((j - column) * rows + i) = omega arith in
+        ap (λ (a : ℕ). cell_at T' a) e ∙ block.turns (j - column) i (omega arith) h ∙ ap (λ (a : ℕ). cell_at S (i * columns + a)) q
 
-  -- A column of the block.
-  in_block : {T' : List ℕ} → BlockTurned rows columns column width start rows S T T' → (i j : ℕ) → i < rows → column ≤ j → j < column + width
-      → cell_at T' (j * rows + i) ≡ cell_at S (i * columns + j)
-  in_block {T'} t i j h l m =
-      let q : column + (j - column) ≡ j = omega arith in
-      let n = add-mul column (j - column) rows in
-      let p = ap (λ (a : ℕ). a * rows) q in
-      let b = turning.begins in
-      let e : j * rows + i ≡ start + ((j - column) * rows + i) = omega arith in
-      ap (λ (a : ℕ). cell_at T' a) e ∙ t.turns (j - column) i (omega arith) h ∙ ap (λ (a : ℕ). cell_at S (i * columns + a)) q
+    before_start : (k : ℕ) → k < first * rows → k < column * rows
+    before_start k l = let a : first * rows ≤ column * rows = mul-le-mul_right rows from_first in omega arith
 
-  pub turning_goes_on : {T' : List ℕ} → BlockTurned rows columns column width start rows S T T'
-      → Turning rows columns first S T₀ T' (column + width) (start + width * rows)
-  turning_goes_on {T'} t = record {
-    from_first = let a = turning.from_first in omega arith;
-    inside = left;
-    begins = next_start;
-    done = record {
+    by_test : (i j : ℕ) → i < rows → first ≤ j → j < column + width → (b : Bool) → ltb j column ≡ b → cell_at T' (j * rows + i) ≡ cell_at S (i * columns + j)
+    by_test i j h l m true e =
+        let k = ltb-true j column e in
+        let a = rows_apart j column rows k in
+        block.before (j * rows + i) (omega arith) ∙ turned.turns i j h l k
+    by_test i j h l m false e = in_block i j h (ltb-false j column e) m
+
+    pub turning_goes_on : Turned rows columns first (column + width) S T₀ T'
+    turning_goes_on = record {
       turns = λ i j h l m. by_test i j h l m (ltb j column) refl;
-      before = λ k l. t.before k (before_start k l) ∙ turning.done.before k l;
+      before = λ k l. block.before k (before_start k l) ∙ turned.before k l;
       later =
           let a = next_start in
-          let b = turning.begins in
-          ap (λ (k : ℕ). drop (2 * k) T') (sym a) ∙ t.later
-          ∙ later_from (2 * (column * rows)) (2 * (start + width * rows)) T T₀ (omega arith) turning.done.later ∙ ap (λ (k : ℕ). drop (2 * k) T₀) a;
-      size = t.size ∙ turning.done.size;
-    };
-  }
-    where
-      before_start : (k : ℕ) → k < first * rows → k < start
-      before_start k l =
-          let a : first * rows ≤ column * rows = mul-le-mul_right rows turning.from_first in
-          let b = turning.begins in
-          omega arith
-
-      by_test : (i j : ℕ) → i < rows → first ≤ j → j < column + width → (b : Bool) → ltb j column ≡ b → cell_at T' (j * rows + i) ≡ cell_at S (i * columns + j)
-      by_test i j h l m true e =
-          let k = ltb-true j column e in
-          let a = rows_apart j column rows k in
-          let b = turning.begins in
-          t.before (j * rows + i) (omega arith) ∙ turning.done.turns i j h l k
-      by_test i j h l m false e = in_block t i j h (ltb-false j column e) m
-
-pub turning_ends : {rows columns first width : ℕ} {S T₀ T : List ℕ} {column start : ℕ} → columns < column + width → Turning rows columns first S T₀ T column start
-    → BlocksTurned rows columns first width S T₀ T column
-turning_ends l t = record { inside = t.inside; last = l; turned = t.done }
+          ap (λ (k : ℕ). drop (2 * k) T') (sym a) ∙ block.later
+          ∙ later_from (2 * (column * rows)) (2 * (column * rows + width * rows)) T T₀ (omega arith) turned.later ∙ ap (λ (k : ℕ). drop (2 * k) T₀) a;
+      size = block.size ∙ turned.size;
+    }
 
 -- ---- All columns: blocks of some, and then one by one.
 

@@ -1,18 +1,21 @@
 -- Document 02, order 9, "Tables stored by place": what storing and restoring promise. Assumes nothing.
-use Rattle.std.specs.Prelude.{List, ◌≡◌, ℕ, ◌*◌, length, drop}
+use Rattle.std.specs.Prelude.{List, Result, ◌≡◌, ℕ, ◌*◌, length, drop}
+use Rattle.grammar.specs.Numbers.{checked_as}
 use Rattle.grammar.specs.Refusal.{Checked, refused, accepted}
+use Rattle.grammar.specs.declared.refusal.Refusal.{Refusal}
 use Rattle.schema.specs.Cells.{cell_at}
 use Rattle.schema.specs.Derivation.{◌at◌}
 use Rattle.schema.specs.Table.{Within, cells}
 use Rattle.archive.specs.Layout.{Layout, by_variable, by_position, cell_in}
 use Rattle.archive.specs.Refusals.{movable}
-use Rattle.archive.specs.declared.Stored.{Stored}
-use Rattle.archive.specs.declared.Stored.TheVariants.{Done, Refused}
 
--- What each case of an answer says: nothing but that it is done, or the number and the line of a refusal.
+-- What storing and restoring answer: that it is done, or a refusal.
+abbrev pub Stored : Type 0
+Stored = Result (Unit {0}) Refusal
+
+-- What an answer says: nothing but that it is done, or the number and the line of its refusal.
 abbrev pub told : Stored → Checked (Unit {0})
-told Done = accepted tt
-told (Refused number line) = refused number line
+told = checked_as (λ _. tt)
 
 -- The cells of v variables on n bytes are moved "from one lent table to another": each table has its layout.
 pub record Moved (from to : Layout) (v n : ℕ) (source target target' : List ℕ) : Type 0 where

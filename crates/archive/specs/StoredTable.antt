@@ -2,10 +2,9 @@
 use Rattle.std.specs.Prelude.{List, [], ◌∷◌, ◌++◌, map, ◌≡◌, ℕ, ◌*◌, ◌≤◌, min, eqb, length, take, drop}
 use Rattle.grammar.specs.Refusal.{accepted}
 use Rattle.schema.specs.Table.{cells}
-use Rattle.archive.specs.Archive.{told, MovePromise, StorePromise, RestorePromise}
+use Rattle.archive.specs.Archive.{Stored, told, MovePromise, StorePromise, RestorePromise}
 use Rattle.archive.specs.Layout.{Layout}
 use Rattle.archive.specs.Tally.{kinds, tally, total}
-use Rattle.archive.specs.declared.Stored.{Stored}
 
 -- Of v variables on n bytes. From one layout to the other is storing, and back is restoring; or the other way about.
 pub record StoredTable (v n : ℕ) : Type 0 where

@@ -2,9 +2,8 @@
 use Rattle.std.specs.Prelude.{List, ◌≢◌, ◌≡◌, ℕ, ◌+◌, ◌*◌, ◌≤◌, ◌<◌, max, length, drop}
 use Rattle.schema.specs.Cells.{cell_at}
 use Rattle.schema.specs.Table.{cells}
-use Rattle.archive.specs.Archive.{told, Unless}
+use Rattle.archive.specs.Archive.{Stored, told, Unless}
 use Rattle.archive.specs.Refusals.{movable}
-use Rattle.archive.specs.declared.Stored.{Stored}
 
 -- ---- In S stand rows of so many columns: few, so that the numbers of cells are small. In T the columns become rows.
 

@@ -4,20 +4,14 @@
 ghost use Rattle.std.specs.Prelude.{◌≡◌, ◌≤◌};
 ghost use Rattle.schema.specs.Cells.{held_at, reach_at, stored, HasCell};
 ghost use Rattle.archive.specs.Archive.{told, StorePromise, RestorePromise};
-ghost use Rattle.archive.specs.Refusals.{tables_short, movable};
+ghost use Rattle.archive.specs.Refusals.{variables_out, tables_short, movable};
 ghost use Rattle.archive.specs.Turn.{AcrossReady, Across, BlockReady, BlockTurned, BlocksReady, BlocksTurned, TurnReady, Turned, Sides, TurnPromise};
 
 use cells::Cell;
+use grammar::refusal::Refusal;
 
 // How many columns are turned at once.
 const BLOCK: usize = 4;
-
-// What storing and restoring answer: it is done; or the number and the line of a refusal.
-#[derive(Drop)]
-pub enum Stored {
-    Done,
-    Refused(u32, u32),
-}
 
 // Copies a cell, both its numbers.
 fn copy_cell(source: &[u32], from: usize, target: &mut [u32], to: usize)
@@ -41,12 +35,8 @@ fn copy_across(
     requires { AcrossReady rows width start row from source.now target.old }
     ensures { Across rows width start row from width source.now target.old target.new }
 {
-    let mut copied: usize = 0;
-    let mut to = start + row;
-    while copied < width {
-        copy_cell(source, from + copied, target, to);
-        to += rows;
-        copied += 1;
+    for k in 0..width {
+        copy_cell(source, from + k, target, start + (k * rows + row));
     }
 }
 
@@ -63,12 +53,16 @@ fn turn_block(
     requires { BlockReady rows columns column width start source.now target.old }
     ensures { BlockTurned rows columns column width start rows source.now target.old target.new }
 {
-    let mut row: usize = 0;
-    let mut from = column;
-    while row < rows {
-        copy_across(rows, width, start, row, source, from, target);
-        from += columns;
-        row += 1;
+    for row in 0..rows {
+        copy_across(
+            rows,
+            width,
+            start,
+            row,
+            source,
+            row * columns + column,
+            target,
+        );
     }
 }
 
@@ -84,14 +78,12 @@ fn turn_blocks(
     requires { BlocksReady rows columns first width source.now target.old }
     ensures { BlocksTurned rows columns first width source.now target.old target.new result }
 {
-    let mut column = first;
-    let mut start = first * rows;
-    while column + width <= columns {
-        turn_block(rows, columns, column, width, start, source, target);
-        start += width * rows;
-        column += width;
+    let blocks = (columns - first) / width;
+    for block in 0..blocks {
+        let column = first + block * width;
+        turn_block(rows, columns, column, width, column * rows, source, target);
     }
-    column
+    first + blocks * width
 }
 
 // Turns rows of cells into columns: first those of whole blocks, of which each row has the cells side by side, so that what is fetched of the source serves
@@ -110,29 +102,30 @@ fn too_short(variables: u32, n: u32, source: usize, target: usize) -> bool
     ensures { result ≡ tables_short variables n source target }
 {
     let due = 2 * (variables as usize * (n as usize + 1));
-    if source < due {
-        return true;
-    }
-    target < due
+    source < due || target < due
+}
+
+// Refusal 3: the count of variables is out of range.
+fn variables_out(variables: u32) -> bool
+    ensures { result ≡ variables_out variables }
+{
+    !(1..=256).contains(&variables)
 }
 
 // The first refusal, or that there is none.
-fn admit(variables: u32, n: u32, source: usize, target: usize) -> Stored
+fn admit(variables: u32, n: u32, source: usize, target: usize) -> Result<(), Refusal>
     ensures { told result ≡ movable variables n source target }
 {
-    if variables < 1 {
-        return Stored::Refused(3, 0);
-    }
-    if 256 < variables {
-        return Stored::Refused(3, 0);
+    if variables_out(variables) {
+        return Err(Refusal::Variables);
     }
     if 4096 < n {
-        return Stored::Refused(6, 0);
+        return Err(Refusal::LongEntry);
     }
     if too_short(variables, n, source, target) {
-        return Stored::Refused(20, 0);
+        return Err(Refusal::Tables);
     }
-    Stored::Done
+    Ok(())
 }
 
 // Turns rows of cells into columns, unless something is refused: the rows of the variables, or those of the positions.
@@ -143,22 +136,17 @@ fn turn_table(
     columns: usize,
     source: &[u32],
     target: &mut [u32],
-) -> Stored
+) -> Result<(), Refusal>
     requires { Sides variables n rows columns }
     ensures { TurnPromise variables n rows columns source.now target.old target.new result }
 {
-    let admitted = admit(variables, n, source.len(), target.len());
-    match admitted {
-        Stored::Refused(number, line) => Stored::Refused(number, line),
-        Stored::Done => {
-            turn(rows, columns, source, target);
-            Stored::Done
-        }
-    }
+    admit(variables, n, source.len(), target.len())?;
+    turn(rows, columns, source, target);
+    Ok(())
 }
 
 // Stores a table of so many variables, of an input of so many bytes, by position.
-pub fn store(variables: u32, length: u32, table: &[u32], stored: &mut [u32]) -> Stored
+pub fn store(variables: u32, length: u32, table: &[u32], stored: &mut [u32]) -> Result<(), Refusal>
     ensures { StorePromise variables length table.now stored.old stored.new result }
 {
     let columns = length as usize + 1;
@@ -173,7 +161,12 @@ pub fn store(variables: u32, length: u32, table: &[u32], stored: &mut [u32]) -> 
 }
 
 // Restores a table that was stored by position.
-pub fn restore(variables: u32, length: u32, stored: &[u32], table: &mut [u32]) -> Stored
+pub fn restore(
+    variables: u32,
+    length: u32,
+    stored: &[u32],
+    table: &mut [u32],
+) -> Result<(), Refusal>
     ensures { RestorePromise variables length stored.now table.old table.new result }
 {
     let rows = length as usize + 1;

@@ -1,9 +1,5 @@
-use Prim.Native.Nat.{◌-◌}
-use Rattle.archive.proofs.Turning.{BlockTurning}
+use Rattle.archive.specs.Turn.{BlockTurned}
 use Rattle.archive.proofs.turn_block.Given as goal
 
 abbrev pub invariant-loop-row : goal.invariant-loop-row
-invariant-loop-row l = BlockTurning l.rows l.columns l.column l.width l.start l.source l.initial.target l.target l.row l.from
-
-abbrev pub decreases-loop-row : goal.decreases-loop-row
-decreases-loop-row l = l.rows - l.row
+invariant-loop-row l = BlockTurned l.rows l.columns l.column l.width l.start l.row l.source l.initial.target l.target
