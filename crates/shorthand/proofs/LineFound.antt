@@ -2,7 +2,7 @@
 use mathlib.Core.Bool.{Bool, true}
 use mathlib.Core.List.{List, []}
 use mathlib.Core.Path.{◌≡◌, refl, ◌∙◌}
-use Prim.Native.Nat.{ℕ, ◌+◌, ◌-◌, ◌≤◌}
+use Prim.Native.Nat.{ℕ, ◌+◌, ◌≤◌}
 use native.Mathlib.Omega.{arith}
 use lib.ListN.{get_or, set, drop}
 use Rattle.grammar.specs.Numbers.{number_of, line_of}
@@ -26,7 +26,7 @@ behind_equals E from = record { at = from.at + 2; variable = E; last = from.last
 abbrev pub behind_line : Piece → Piece
 behind_line p = record { at = p.at + 1; variable = p.variable; last = p.last; cost = p.cost }
 
-module _ (numbers : List ℕ) (E : ℕ) (s : List ℕ) (from : Piece) (lines : List Bool) (r : LineReady s from) (o : Opens s from.at lines) where
+module _ (numbers : List ℕ) (E : ℕ) (s : List ℕ) (from : Piece) (lines : List Bool) (r : LineReady s from) (index : ℕ) (o : Opens s from.at lines index) where
   pub choice_ready : E ≤ 256 → Ready s 0 (behind_equals E from)
   choice_ready a =
       let l = before_end s (from.at + 1) 61 (omega arith) o.equals in
@@ -40,19 +40,19 @@ module _ (numbers : List ℕ) (E : ℕ) (s : List ℕ) (from : Piece) (lines : L
   -- Its choice is refused.
   pub choice_refused : (x : Refusal) → ((u : Unit {0}) → Refuses s 0 (from.at + 2) ((choices (number_held numbers) E).before u) x)
       → (ls : List Line) → Defines ls lines → scan (drop from.at s) (before ls) ≡ refused (number_of x) (line_of x)
-  choice_refused x f ls d = line_opens s from.at lines ls r.inside d o ∙ f tt ls (get_or s from.at 0) [] refl
+  choice_refused x f ls d = line_opens s from.at lines ls r.inside d index o ∙ f tt ls (get_or s from.at 0) [] refl
 
   module _ {ws ws₁ : List ℕ} {p : Piece} (f : Finds (choices (number_held numbers) E) s 0 (behind_equals E from) ws p ws₁) where
     -- Its choice does not end with byte 10.
     pub end_refused : EndsChoice s p → (get_or s p.at 0 ≡ 10 → ⊥) → (ls : List Line) → Defines ls lines → scan (drop from.at s) (before ls) ≡ refused 15 0
     end_refused e n ls d =
-        line_opens s from.at lines ls r.inside d o ∙ f.moves tt ls (get_or s from.at 0) [] refl
+        line_opens s from.at lines ls r.inside d index o ∙ f.moves tt ls (get_or s from.at 0) [] refl
         ∙ line_not_ended s p.at e.0 e.1 n _ ls (get_or s from.at 0)
 
     -- It does, and its letter has a rule.
-    pub line_is : (i : ℕ) {ws₂ : List ℕ} → i ≡ get_or s from.at 0 - 65 → get_or s p.at 0 ≡ 10 → Names (get_or numbers i 0) E p.variable ws₁ ws₂
-        → LineFinds (number_held numbers) E s from lines ws (behind_line p) (set lines i true) ws₂
-    line_is i {ws₂} same e names =
+    pub line_is : {ws₂ : List ℕ} → get_or s p.at 0 ≡ 10 → Names (get_or numbers index 0) E p.variable ws₁ ws₂
+        → LineFinds (number_held numbers) E s from lines ws (behind_line p) (set lines index true) ws₂
+    line_is {ws₂} e names =
         let l = before_end s p.at 10 (omega arith) e in
         let b = f.low in
         let few = f.few in
@@ -62,10 +62,10 @@ module _ (numbers : List ℕ) (E : ℕ) (s : List ℕ) (from : Piece) (lines : L
           low = omega arith;
           high = omega arith;
           moves = λ ls d.
-              line_opens s from.at lines ls r.inside d o ∙ f.moves tt ls (get_or s from.at 0) [] refl
+              line_opens s from.at lines ls r.inside d index o ∙ f.moves tt ls (get_or s from.at 0) [] refl
               ∙ line_ends s p.at e f.piece ls (get_or s from.at 0);
-          defines = λ ls d. rw same (defines_more ls lines (get_or s from.at 0) f.piece o.letter d);
+          defines = λ ls d. rw o.index_is (defines_more ls lines (get_or s from.at 0) f.piece o.letter d);
           few = record { variable_few = few.variable_few; last_few = few.last_few; cost_few = few.cost_few };
           cost_is = f.cost_is;
-          stores = λ z h. stored_line (number_held numbers) E (get_or s from.at 0) (choice_rules (number_held numbers) E (E + 1) f.piece z) p.variable p.last ws₁ ws₂ (f.stores z h) (rw same at names);
+          stores = λ z h. stored_line (number_held numbers) E (get_or s from.at 0) (choice_rules (number_held numbers) E (E + 1) f.piece z) p.variable p.last ws₁ ws₂ (f.stores z h) (rw o.index_is at names);
         }

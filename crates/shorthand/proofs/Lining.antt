@@ -1,5 +1,7 @@
 -- One line of a text: its beginning, its end, its letter. Assumes nothing.
-use mathlib.Core.Bool.{Bool, true, false, not, ◌&&◌, ◌||◌, true≢false}
+use Rattle.std.specs.Prelude.{Some, None}
+use Rattle.std.proofs.lemmas.Option.{none-some, cond_some}
+use mathlib.Core.Bool.{Bool, true, false, cond, not, ◌&&◌, ◌||◌, true≢false}
 use mathlib.Core.List.{List, [], ◌∷◌, ◌++◌}
 use mathlib.Core.Option.{none}
 use mathlib.Core.Path.{◌≡◌, refl, sym, ap, ◌∙◌, subst}
@@ -21,29 +23,29 @@ use Rattle.letters.proofs.Lettered.{index_in}
 use Rattle.pieces.specs.Store.{Stored, StoredMade}
 use Rattle.pieces.proofs.Storing.{words_with}
 use Rattle.pieces.proofs.Scanning.{one, at_end_law, byte_is}
-use Rattle.shorthand.specs.Lines.{Defines, opens_line, Names}
+use Rattle.shorthand.specs.Lines.{Defines, opens_line, opened_letter, Names}
 
 -- ---- The letter and `=`.
 
--- What a line begins with.
-pub record Opens (s : List ℕ) (at : ℕ) (lines : List Bool) : Type 0 where
+-- What a line begins with: a letter that has none.
+pub record Opens (s : List ℕ) (at : ℕ) (lines : List Bool) (index : ℕ) : Type 0 where
   pub letter : capital (get_or s at 0) ≡ true
   pub new : get_or lines (get_or s at 0 - 65) false ≡ false
   pub equals : get_or s (at + 1) 0 ≡ 61
+  pub index_is : index ≡ get_or s at 0 - 65
 
-pub opens_parts : (s : List ℕ) (at : ℕ) (lines : List Bool) → opens_line s at lines ≡ true → Opens s at lines
+pub opens : (s : List ℕ) (at : ℕ) (lines : List Bool) (index : ℕ) → Some index ≡ opened_letter s at lines → Opens s at lines index
 unfolding opens_line
-opens_parts s at lines e = go (capital (get_or s at 0)) (get_or lines (get_or s at 0 - 65) false) (eqb (get_or s (at + 1) 0) 61) refl refl refl e
+opens s at lines index e =
+    let p = cond_some (opens_line s at lines) (get_or s at 0 - 65) index (sym e) in
+    go (capital (get_or s at 0)) (get_or lines (get_or s at 0 - 65) false) (eqb (get_or s (at + 1) 0) 61) refl refl refl p.0 (sym p.1)
   where
-    go : (t u w : Bool) → capital (get_or s at 0) ≡ t → get_or lines (get_or s at 0 - 65) false ≡ u → eqb (get_or s (at + 1) 0) 61 ≡ w → (t && (not u && w)) ≡ true → Opens s at lines
-    go true false true p q r h = record { letter = p; new = q; equals = eqb-true _ 61 r }
-    go true false false p q r h = absurd (true≢false (sym h))
-    go true true w p q r h = absurd (true≢false (sym h))
-    go false u w p q r h = absurd (true≢false (sym h))
-
--- Its letter is one of 26.
-pub letter_index : (s : List ℕ) (at : ℕ) (lines : List Bool) → opens_line s at lines ≡ true → (65 ≤ get_or s at 0) × (get_or s at 0 - 65 < 26)
-letter_index s at lines e = index_in (get_or s at 0) (opens_parts s at lines e).letter
+    go : (t u w : Bool) → capital (get_or s at 0) ≡ t → get_or lines (get_or s at 0 - 65) false ≡ u → eqb (get_or s (at + 1) 0) 61 ≡ w → (t && (not u && w)) ≡ true
+        → index ≡ get_or s at 0 - 65 → Opens s at lines index
+    go true false true p q r h e = record { letter = p; new = q; equals = eqb-true _ 61 r; index_is = e }
+    go true false false p q r h e = absurd (true≢false (sym h))
+    go true true w p q r h e = absurd (true≢false (sym h))
+    go false u w p q r h e = absurd (true≢false (sym h))
 
 module _ (s : List ℕ) (at : ℕ) (lines : List Bool) (ls : List Line) (inside : at < length s) (d : Defines ls lines) where
   -- A letter that has no line yet.
@@ -52,9 +54,9 @@ module _ (s : List ℕ) (at : ℕ) (lines : List Bool) (ls : List Line) (inside 
   letter_moves c n = one s at (before ls) inside ∙ rw (c, d.held (get_or s at 0) c, n)
 
   -- `=` behind it, or not.
-  pub line_opens : Opens s at lines → scan (drop at s) (before ls) ≡ scan (drop (at + 2) s) (choosing ls (get_or s at 0) [] (part none empty))
+  pub line_opens : (index : ℕ) → Opens s at lines index → scan (drop at s) (before ls) ≡ scan (drop (at + 2) s) (choosing ls (get_or s at 0) [] (part none empty))
   unfolding step
-  line_opens o =
+  line_opens index o =
       let k : at + 1 + 1 ≡ at + 2 = omega arith in
       letter_moves o.letter o.new ∙ byte_is s (at + 1) 61 (named ls (get_or s at 0)) (omega arith) o.equals
       ∙ ap (λ i. scan (drop i s) (choosing ls (get_or s at 0) [] (part none empty))) k
@@ -68,13 +70,13 @@ module _ (s : List ℕ) (at : ℕ) (lines : List Bool) (ls : List Line) (inside 
       go (no x) = at_end_law s (at + 1) (named ls (get_or s at 0)) (omega arith)
 
   -- A line that does not begin so is refused.
-  pub not_opened : opens_line s at lines ≡ false → scan (drop at s) (before ls) ≡ refused 15 0
+  pub not_opened : None ≡ opened_letter s at lines → scan (drop at s) (before ls) ≡ refused 15 0
   unfolding opens_line step
   not_opened e = go (capital (get_or s at 0)) (get_or lines (get_or s at 0 - 65) false) (eqb (get_or s (at + 1) 0) 61) refl refl refl e
     where
-      go : (t u w : Bool) → capital (get_or s at 0) ≡ t → get_or lines (get_or s at 0 - 65) false ≡ u → eqb (get_or s (at + 1) 0) 61 ≡ w → (t && (not u && w)) ≡ false
-          → scan (drop at s) (before ls) ≡ refused 15 0
-      go true false true p q r h = absurd (true≢false h)
+      go : (t u w : Bool) → capital (get_or s at 0) ≡ t → get_or lines (get_or s at 0 - 65) false ≡ u → eqb (get_or s (at + 1) 0) 61 ≡ w
+          → None ≡ cond (t && (not u && w)) (Some (get_or s at 0 - 65)) None → scan (drop at s) (before ls) ≡ refused 15 0
+      go true false true p q r h = absurd (none-some _ h)
       go true false false p q r h = letter_moves p q ∙ no_equals (eqb-false _ 61 r)
       go true true w p q r h = one s at (before ls) inside ∙ rw (p, d.held (get_or s at 0) p, q)
       go false u w p q r h = one s at (before ls) inside ∙ rw p
@@ -114,8 +116,8 @@ words_above zero A f r l = refl
 words_above (suc k) A f r l = rw (elsewhere f 0 A r (λ e. omega arith)) (ap (λ ws. word (f A) ∷ ws) (words_above k (suc A) f r (omega arith)))
 
 module _ (number E y : ℕ) (ws : List ℕ) where
-  pub names_one : (code : ℕ) → 1 ≤ number → number ≤ 256 → code ≡ word (call y E (E + 1)) → Names number E y ws (set ws (number - 1) code)
-  names_one code low high e f h = words_with f number (call y E (E + 1)) ws code low high e h
+  pub names_one : (index code : ℕ) → (1 ≤ number) × (index ≡ number - 1) → number ≤ 256 → code ≡ word (call y E (E + 1)) → Names number E y ws (set ws index code)
+  names_one index code low high e f h = rw low.1 (words_with f number (call y E (E + 1)) ws code low.0 high e h)
 
   pub names_none : number ≡ 0 → Names number E y ws ws
   names_none e f h = h ∙ words_above 256 1 f (call y E (E + 1)) (omega arith) ∙ rw e refl

@@ -1,5 +1,5 @@
 -- Document 02, order 1: the lines of a text, read one after another, and the rules that are stored. Assumes nothing.
-use Rattle.std.specs.Prelude.{Bool, true, false, not, ◌&&◌, Result, Ok, Err, List, [], ◌∷◌, ◌++◌, ◌≡◌, ℕ, ◌+◌, ◌-◌, ◌≤◌, ◌<◌, eqb, length, get_or, drop}
+use Rattle.std.specs.Prelude.{Bool, true, false, cond, not, ◌&&◌, Option, Some, None, Result, Ok, Err, List, [], ◌∷◌, ◌++◌, ◌≡◌, ℕ, ◌+◌, ◌-◌, ◌≤◌, ◌<◌, eqb, length, get_or, drop}
 use Rattle.grammar.specs.Numbers.{number_of, line_of}
 use Rattle.grammar.specs.Refusal.{refused, accepted}
 use Rattle.grammar.specs.declared.refusal.Refusal.{Refusal}
@@ -19,6 +19,10 @@ pub record Defines (ls : List Line) (lines : List Bool) : Type 0 where
 -- "a capital letter (65-90), `=`", of a letter that has no line yet.
 unfoldable pub opens_line : List ℕ → ℕ → List Bool → Bool
 opens_line s at lines = capital (get_or s at 0) && (not (get_or lines (get_or s at 0 - 65) false) && eqb (get_or s (at + 1) 0) 61)
+
+-- That letter, counted from A.
+abbrev pub opened_letter : List ℕ → ℕ → List Bool → Option ℕ
+opened_letter s at lines = cond (opens_line s at lines) (Some (get_or s at 0 - 65)) None
 
 -- The words of the rules, with that of a letter: it acts as the variable y.
 abbrev pub Names : ℕ → ℕ → ℕ → List ℕ → List ℕ → Type 0

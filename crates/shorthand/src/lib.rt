@@ -1,9 +1,9 @@
 // Rule sheets from the societies' shorthand (document 02, order 1).
 #![tactic(auto)]
 
-ghost use Rattle.std.specs.Prelude.{◌≡◌, ◌≤◌, length};
+ghost use Rattle.std.specs.Prelude.{◌≡◌, ◌≤◌, ◌<◌, IfSome, length};
 ghost use Rattle.pieces.specs.Store.{number_held};
-ghost use Rattle.shorthand.specs.Lines.{opens_line, Names, LineReady, LineReads, LinesReady, LinesRead};
+ghost use Rattle.shorthand.specs.Lines.{opened_letter, Names, LineReady, LineReads, LinesReady, LinesRead};
 ghost use Rattle.shorthand.specs.Promise.{EndReady, Ends, CompilePromise};
 
 use grammar::refusal::Refusal;
@@ -13,16 +13,18 @@ use pieces::source::Source;
 use pieces::{Piece, byte_at, call_word};
 use printing::write_sheet;
 
-// Does a line of a letter begin here that has none yet? `lines` says which letters have one.
+// The letter, counted from A, whose line begins here, where it has none yet. `lines` says which letters have one.
 #[tactic(auto, unfolding(crate::specs::Lines::opens_line))]
-fn opens_line(s: &[u8], at: usize, lines: &[bool; 26]) -> bool
+fn opened_letter(s: &[u8], at: usize, lines: &[bool; 26]) -> Option<usize>
     requires { at ≤ length s.now }
-    ensures { result ≡ opens_line s.now at lines.now }
+    ensures value { result ≡ opened_letter s.now at lines.now }
+    ensures few { IfSome result (λ index. index < 26) }
 {
-    let letter = byte_at(s, at);
-    matches!(letter, b'A'..=b'Z')
-        && !lines[usize::from(letter - b'A')]
-        && byte_at(s, at + 1) == b'='
+    let letter @ b'A'..=b'Z' = byte_at(s, at) else {
+        return None;
+    };
+    let index = usize::from(letter - b'A');
+    (!lines[index] && byte_at(s, at + 1) == b'=').then_some(index)
 }
 
 // Gives a letter of this number its rule: it acts as the choice in its line.
@@ -30,9 +32,8 @@ fn name_choice(number: u32, always: u32, choice: Piece, rules: &mut Rules)
     requires { (number ≤ 256) × (always ≤ 256) × (choice.variable ≤ 257) }
     ensures { Names number always choice.variable rules.old rules.new }
 {
-    if number != 0 {
-        let index = number as usize - 1;
-        rules[index] = call_word(choice.variable, always, always + 1);
+    if let Some(index) = number.checked_sub(1) {
+        rules[index as usize] = call_word(choice.variable, always, always + 1);
     }
 }
 
@@ -47,9 +48,9 @@ fn read_line(
     ensures { LineReads (number_held source.now.numbers.now) source.now.always source.now.text.now from lines.old rules.old result lines.new rules.new }
 {
     let text = source.text;
-    if !opens_line(text, from.at, lines) {
+    let Some(index) = opened_letter(text, from.at, lines) else {
         return Err(Refusal::Text);
-    }
+    };
     let start = Piece {
         at: from.at + 2,
         variable: source.always,
@@ -59,7 +60,6 @@ fn read_line(
     if byte_at(text, choice.at) != b'\n' {
         return Err(Refusal::Text);
     }
-    let index = usize::from(text[from.at] - b'A');
     lines[index] = true;
     name_choice(source.numbers[index], source.always, choice, rules);
     Ok(Piece {

@@ -2,12 +2,8 @@ use native.Mathlib.Omega.{arith}
 use Rattle.shorthand.proofs.Lining.{names_one, names_none}
 use Rattle.shorthand.proofs.name_choice.Goals as goal
 
-pub returns-then-number-ne0 : goal.returns-then-number-ne0
-returns-then-number-ne0 c =
-    let a = c.args in
-    names_one a.number a.always a.choice.variable a.rules.now c.call_word.result (omega arith) c.requires.0 c.call_word.ensures
+pub returns-in-Some : goal.returns-in-Some
+returns-in-Some c = names_one _ _ _ _ _ _ c.in-Some.ensures c.requires.0 c.call_word.ensures
 
-pub returns-else-number-ne0 : goal.returns-else-number-ne0
-returns-else-number-ne0 c =
-    let a = c.args in
-    names_none a.number a.always a.choice.variable a.rules.now c.if-number-ne0.false
+pub returns-in_default : goal.returns-in_default
+returns-in_default c = names_none _ _ _ _ (omega arith)
