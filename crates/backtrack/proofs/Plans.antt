@@ -71,3 +71,6 @@ module _ (rule : ℕ → Rule) (input xs : List ℕ) (p moves d : ℕ) where
   unfolding step
   right_stage2 true q deep z b = simp (stack_top xs d deep, ne_eqb (stage xs d) 0 (omega arith), ne_eqb (stage xs d) 1 (omega arith), b)
   right_stage2 false q deep z b = simp (stack_top xs d deep, ne_eqb (stage xs d) 0 (omega arith), ne_eqb (stage xs d) 1 (omega arith), b)
+
+-- What `peek` plans.
+pub ruleset plans = (sound_top, right_bottom, right_stage0, right_stage1, right_stage2)

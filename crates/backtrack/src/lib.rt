@@ -72,6 +72,7 @@ fn plan_of(act: Act, x: Registers) -> ControlFlow<Ending, Move>
 }
 
 // What comes next: an outcome, which ends the run, or a move.
+#[tactic(auto, using(crate::proofs::Plans::plans))]
 fn peek(rules: &Rules, input: &[u8], frames: &[u32], x: Registers) -> ControlFlow<Ending, Move>
     requires { (length input.now ≤ 4096) × Valid (rule_in rules.now) frames.now x }
     ensures { Plans x.moves (stack_in frames.now x.depth) (step (rule_in rules.now) input.now (state_in frames.now x)) result }

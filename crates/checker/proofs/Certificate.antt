@@ -8,6 +8,7 @@ use Rattle.grammar.specs.Refusal.{refused, accepted, checked}
 use Rattle.grammar.specs.Rule.{Rule}
 use Rattle.grammar.specs.Sheet.{Grammar}
 use Rattle.grammar.proofs.Accepted.{describes}
+use Rattle.grammar.proofs.HandedOn.{handed_on}
 use Rattle.schema.specs.Derivation.{Pair}
 use Rattle.schema.specs.Handed.{asked, handed}
 use Rattle.schema.proofs.Handed.{handed_sheet}
@@ -40,3 +41,6 @@ module _ (sheet input : List ℕ) (x : Pair) (s : List ℕ) where
   check_judged g e f h =
       let same = (describes sheet g (handed_sheet sheet (asked input x) g h)).grammar_is in
       rw (e, ← f) (sym (check_parts sheet input x s ∙ rw h (ap (λ (k : Grammar). judged k.rule k.variables input x s) same)))
+
+-- What `judge` finds.
+pub ruleset judging = (judged_length, judged_line, judged_last, handed_on)

@@ -9,7 +9,7 @@ use Rattle.grammar.specs.Refusal.{refused, accepted, checked}
 use Rattle.grammar.specs.Order.{NoneHolds}
 use Rattle.grammar.specs.Rule.{Rule}
 use Rattle.grammar.specs.Sheet.{is_none}
-use Rattle.grammar.proofs.Refusals.{then, accepted_clear, checked_then, none_append}
+use Rattle.grammar.proofs.Refusals.{then, accepted_clear, checked_then}
 use Rattle.checker.specs.Checker.{line_at, earlier_line, follows, line_condition, line_order, lines_order}
 use Rattle.checker.specs.Steps.{line_found, lines_found}
 
@@ -59,3 +59,6 @@ module _ (rule : ℕ → Rule) (v : ℕ) (input s : List ℕ) where
       let z : (count - (k + 1)) + (k + 1) ≡ count = omega arith in
       let here : refused x n ≡ lines_found rule v input s (k + 1) = sym (lines_more k ∙ rw (← p, ← e)) in
       rw z at (stays x n (k + 1) (count - (k + 1)) here)
+
+-- What `check_lines` finds.
+pub ruleset testing = (no_lines, lines_more, refuses)

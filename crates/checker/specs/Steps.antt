@@ -2,7 +2,7 @@
 use Rattle.std.specs.Prelude.{List, ℕ, ◌*◌, ◌≤◌, length}
 use Rattle.std.specs.Prelude as Prelude
 use Rattle.std.proofs.Math.Option.{Option, none, some}
-use Rattle.grammar.specs.Refusal.{Checked, refused, accepted, checked}
+use Rattle.grammar.specs.Refusal.{Checked, checked}
 use Rattle.grammar.specs.Rule.{Rule}
 use Rattle.schema.specs.Derivation.{Result, success, failure}
 use Rattle.schema.specs.Line.{Line, line}

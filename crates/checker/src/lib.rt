@@ -235,7 +235,7 @@ fn check_line(
 }
 
 // The first `count` lines in turn.
-#[tactic(auto, using(crate::proofs::Progress::no_lines, crate::proofs::Progress::lines_more, crate::proofs::Progress::refuses))]
+#[tactic(auto, using(crate::proofs::Progress::testing))]
 fn check_lines(
     rules: &Rules,
     variables: u32,
@@ -277,6 +277,7 @@ fn last_line(
 }
 
 // What the rules make of a certificate for the pair of a variable and a position, for refusals 12 to 14.
+#[tactic(auto, using(crate::proofs::Certificate::judging))]
 fn judge(
     rules: &Rules,
     variables: u32,

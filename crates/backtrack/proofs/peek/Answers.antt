@@ -5,35 +5,16 @@ use lib.ListN.{get_or}
 use Rattle.grammar.specs.Words.{rule_in}
 use Rattle.rules.proofs.RuleWords.{second_in_law}
 use Rattle.rules.specs.Act.{told}
-use Rattle.backtrack.proofs.Plans.{sound_top, right_bottom, right_stage0, right_stage1, right_stage2}
-use borrow.Author.Rules.{rules}
+use Rattle.backtrack.proofs.Plans.{sound_top, right_stage0, right_stage1}
 use Rattle.backtrack.proofs.peek.Goals as goal
 
 -- `peek` plans the machine's next step. Assumes nothing.
-pub returns-then-x-eq0 : goal.returns-then-x-eq0
-returns-then-x-eq0 c =
-    let a = c.args in
-    right_bottom (rule_in a.rules.now) a.input.now a.frames.now a.x.position a.x.moves a.x.depth a.x.flag
-    c.bottom.result c.if-x-eq0.true c.bottom.ensures
-
-pub act_at-requires : goal.act_at-requires
-act_at-requires c =
-    let a = c.args in
-    let t = sound_top (rule_in a.rules.now) a.frames.now a.x.depth (omega arith) c.requires.1.sound in
-    (t.low, t.high, c.requires.0)
-
 pub returns-in-0 : goal.returns-in-0
 returns-in-0 c =
     let a = c.args in
     right_stage0 (rule_in a.rules.now) a.input.now a.frames.now a.x.position a.x.moves a.x.depth a.x.flag
     (told c.act_at.result) c.plan_of.result (omega arith) c.in-0.is c.act_at.ensures
     c.plan_of.ensures
-
-pub second_of-requires : goal.second_of-requires
-second_of-requires c =
-    let a = c.args in
-    let t = sound_top (rule_in a.rules.now) a.frames.now a.x.depth (omega arith) c.requires.1.sound in
-    (t.low, t.high)
 
 pub returns-in-1 : goal.returns-in-1
 returns-in-1 c =
@@ -43,9 +24,3 @@ returns-in-1 c =
     right_stage1 (rule_in a.rules.now) a.input.now a.frames.now a.x.position a.x.moves a.x.depth a.x.flag
     c.second_of.result c.back-position.result (omega arith) c.in-1.is k
     (c.second_of.ensures ∙ second_in_law a.rules.now (get_or a.frames.now ((a.x.depth - 1) * 3) 0) k.0 k.1 k.2 a.x.flag k.3) c.back-position.ensures
-
-pub returns-in_default : goal.returns-in_default
-returns-in_default c =
-    let a = c.args in
-    right_stage2 (rule_in a.rules.now) a.input.now a.frames.now a.x.position a.x.moves a.x.depth a.x.flag
-    c.back-position-in_default.result (omega arith) (omega arith) c.back-position-in_default.ensures

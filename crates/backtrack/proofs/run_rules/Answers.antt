@@ -19,4 +19,3 @@ loop-ending-init c =
     let k = first.auto.frames in
     begins a.rules.now a.input.now a.variable a.position a.budget first.new.frames a.frames.now (omega arith) (omega arith)
     (omega arith) first.ensures
-

@@ -1,9 +1,5 @@
-use mathlib.Core.Path.{refl, ◌∙◌}
 use Prim.Native.Nat.{◌-◌}
-use native.Mathlib.Omega.{arith}
-use borrow.Author.Rules.{rules}
-use Rattle.grammar.specs.Words.{rule_in}
-use Rattle.backtrack.proofs.Loop.{Head, no_room, begins, on_end, on_move}
+use Rattle.backtrack.proofs.Loop.{Head}
 use Rattle.backtrack.proofs.run_rules.Given as goal
 
 -- `run_rules` comes to what the machine comes to. Assumes nothing.
