@@ -161,13 +161,12 @@ pub record Part (s part : List ℕ) (at n : ℕ) : Type 0 where
 
 -- As a program lends it: so many of all that is left from there.
 pub part_lent : (s rest part : List ℕ) (at n : ℕ) → at ≤ length s → rest ≡ take (length s - at) (drop at s) → n ≤ length rest
-    → part ≡ take (n - 0) (drop 0 rest) → Part s part at n
+    → part ≡ take n rest → Part s part at n
 part_lent s rest part at n l e k f =
     let d = length-drop at s in
     let t : rest ≡ drop at s = e ∙ take_all (length s - at) (drop at s) (omega arith) in
     let m : length rest ≡ length s - at = ap length t ∙ d in
-    let z : n - 0 ≡ n = omega arith in
-    record { inside = omega arith; is = f ∙ rw z (ap (take n) t ∙ part_is at n s) }
+    record { inside = omega arith; is = f ∙ ap (take n) t ∙ part_is at n s }
 
 pub width_is : (w k : ℕ) → width w k ≡ k * w
 unfolding width
@@ -176,7 +175,9 @@ width_is w (suc k) = rw (suc-mul k w, width_is w k) (omega arith)
 
 pub line_lent : (s rest line : List ℕ) (at w k : ℕ) → at ≤ length s → rest ≡ take (length s - at) (drop at s) → k * w ≤ length rest
     → line ≡ take (k * w - 0) (drop 0 rest) → Part s line at (width w k)
-line_lent s rest line at w k l e m f = rw (width_is w k) (part_lent s rest line at (k * w) l e m f)
+line_lent s rest line at w k l e m f =
+    let z : k * w - 0 ≡ k * w = omega arith in
+    rw (width_is w k) (part_lent s rest line at (k * w) l e m (f ∙ ap (λ (n : ℕ). take n rest) z))
 
 -- Its fields are those from the position on.
 pub fields_within : (w : ℕ) (s part : List ℕ) (k at : ℕ) → Part s part at (width w k) → fields k w part 0 ≡ fields k w s at
@@ -203,9 +204,13 @@ pub ends_before : (s : List ℕ) (at n : ℕ) → (length s < at) ⊎ (length s 
 ends_before s at n (inl h) = omega arith
 ends_before s at n (inr h) = absurd (omega arith)
 
-pub ends_within : (s rest : List ℕ) (at n : ℕ) → at ≤ length s → rest ≡ take (length s - at) (drop at s) → (n < 0) ⊎ (length rest < n) → length s < at + n
-ends_within s rest at n l e (inl h) = absurd (omega arith)
-ends_within s rest at n l e (inr h) =
+pub ends_within : (s rest : List ℕ) (at n : ℕ) → at ≤ length s → rest ≡ take (length s - at) (drop at s) → length rest < n → length s < at + n
+ends_within s rest at n l e h =
     let d = length-drop at s in
     let m : length rest ≡ length s - at = ap length (e ∙ take_all (length s - at) (drop at s) (omega arith)) ∙ d in
     omega arith
+
+pub ends_in_line : (s rest : List ℕ) (at n : ℕ) → at ≤ length s → rest ≡ take (length s - at) (drop at s) → (n < 0) ⊎ (length rest < n)
+    → length s < at + n
+ends_in_line s rest at n l e (inl h) = absurd (omega arith)
+ends_in_line s rest at n l e (inr h) = ends_within s rest at n l e h

@@ -13,12 +13,12 @@ pub struct Cursor {
     pub at: usize,
 }
 
-// The digit that a byte shows.
+// The digit that a byte shows. (It is subtracted as a number: then the compiler needs no second test.)
 fn digit(b: u8) -> Option<u32>
     ensures { result ≡ digit_of b }
 {
     match b {
-        b'0'..=b'9' => Some(u32::from(b - b'0')),
+        b'0'..=b'9' => Some(u32::from(b) - u32::from(b'0')),
         _ => None,
     }
 }
@@ -28,7 +28,7 @@ fn first_digit(b: u8) -> Option<u32>
     ensures { result ≡ first_digit_of b }
 {
     match b {
-        b'1'..=b'9' => Some(u32::from(b - b'0')),
+        b'1'..=b'9' => Some(u32::from(b) - u32::from(b'0')),
         _ => None,
     }
 }
@@ -72,7 +72,9 @@ fn first_four(columns: &[u8; 5]) -> u32
     u32::from_le_bytes([a, b, c, d])
 }
 
-// The number in five columns: by digits from the last on, until all that is left is blank. Blanks are found with one comparison.
+// The number in five columns: by digits from the last on, until all that is left is blank. Blanks are found with one comparison. (A sheet has up to
+// 1285 such fields, and a call for each of them would take nearly half of the time.)
+#[inline]
 fn five_columns(columns: &[u8; 5]) -> Option<u32>
     ensures { held result ≡ number columns.now }
 {
@@ -96,9 +98,9 @@ fn five_columns(columns: &[u8; 5]) -> Option<u32>
     Some(10000 * first_digit(a)? + 1000 * digit(b)? + hundreds)
 }
 
-// The number in these columns, of which five go a faster way.
-fn read(columns: &[u8]) -> Option<u32>
-    requires { length columns.now ≤ 8 }
+// The number in W columns. Five go a faster way.
+fn read<const W: usize>(columns: &[u8; W]) -> Option<u32>
+    requires { W ≤ 8 }
     ensures { held result ≡ number columns.now }
 {
     match columns.as_array() {
@@ -113,7 +115,7 @@ impl Cursor {
         requires { W ≤ 8 }
         ensures { told result ≡ reads W s.now self.at }
     {
-        let columns = s.get(self.at..)?.get(..W)?;
+        let columns = s.get(self.at..)?.first_chunk::<W>()?;
         Some((read(columns)?, Cursor { at: self.at + W }))
     }
 }

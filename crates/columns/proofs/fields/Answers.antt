@@ -1,6 +1,6 @@
 use Rattle.std.proofs.Common.{◌*◌, sym, ◌∙◌, arith}
 use Rattle.std.proofs.lemmas.List.{length-replicate}
-use Rattle.columns.proofs.Parts.{starts, stops, reads_on, all_read, line_lent, width_is, fields_within, fields_short, ends_before, ends_within}
+use Rattle.columns.proofs.Parts.{starts, stops, reads_on, all_read, line_lent, width_is, fields_within, fields_short, ends_before, ends_in_line}
 use Rattle.columns.proofs.fields.Goals as goal
 
 pub returns-in_err-get : goal.returns-in_err-get
@@ -13,7 +13,7 @@ returns-in_err-line g c =
     let s = c.args.s.now in
     let l = c.in_ok-get.ensures.lookup.0 in
     let m = width_is g.row.W g.row.N in
-    let e = ends_within s _ c.args.at (g.row.N * g.row.W) l.0 l.2 c.in_err-line.ensures.lookup.0 in
+    let e = ends_in_line s _ c.args.at (g.row.N * g.row.W) l.0 l.2 c.in_err-line.ensures.lookup.0 in
     rw c.from_residual-in_err-line.ensures (sym (fields_short g.row.W s g.row.N c.args.at c.requires.any (omega arith)))
 
 pub loop-x-init : goal.loop-x-init

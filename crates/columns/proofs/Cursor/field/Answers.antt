@@ -16,15 +16,15 @@ returns-in_err-columns g c =
     let s = c.args.s.now in
     let at = c.args.self.at in
     let l = c.in_ok-get.ensures.lookup.0 in
-    rw c.from_residual-in_err-columns.ensures (short g.row.W s at (ends_within s _ at g.row.W l.0 l.2 c.in_err-columns.ensures.lookup.0))
+    rw c.from_residual-in_err-columns.ensures (short g.row.W s at (ends_within s _ at g.row.W l.0 l.2 c.in_err-columns.ensures.cases))
 
 pub returns-in_err-read : goal.returns-in_err-read
 returns-in_err-read g c =
     let s = c.args.s.now in
     let at = c.args.self.at in
     let l = c.in_ok-get.ensures.lookup.0 in
-    let m = c.in_ok-columns.ensures.lookup.0 in
-    let p = part_lent s _ _ at g.row.W l.0 l.2 m.1 m.2 in
+    let m = c.in_ok-columns.ensures.cases in
+    let p = part_lent s _ _ at g.row.W l.0 l.2 m.enough m.same in
     rw c.from_residual-in_err-read.ensures (found g.row.W s at none p.inside (ap number (sym p.is) ∙ sym c.in_err-read.ensures))
 
 pub returns : goal.returns
@@ -32,6 +32,6 @@ returns g c =
     let s = c.args.s.now in
     let at = c.args.self.at in
     let l = c.in_ok-get.ensures.lookup.0 in
-    let m = c.in_ok-columns.ensures.lookup.0 in
-    let p = part_lent s _ _ at g.row.W l.0 l.2 m.1 m.2 in
+    let m = c.in_ok-columns.ensures.cases in
+    let p = part_lent s _ _ at g.row.W l.0 l.2 m.enough m.same in
     found g.row.W s at (some c.in_ok-read.field-0) p.inside (ap number (sym p.is) ∙ sym c.in_ok-read.ensures)
