@@ -5,6 +5,7 @@ use mathlib.Core.Logic.{◌⊎◌, ◌≢◌, ◌↔◌}
 use mathlib.Core.Path.{◌≡◌, refl, sym, ap, ◌∙◌, subst}
 use Prim.Native.Nat.{ℕ, ◌≤◌}
 use lib.ListN.{length}
+use Rattle.std.specs.Prelude.{Result}
 use Rattle.grammar.specs.Refusal.{Checked, refused, accepted}
 use Rattle.grammar.specs.Rule.{Rule}
 use Rattle.grammar.specs.Sheet.{Grammar}
@@ -17,6 +18,7 @@ use Rattle.schema.proofs.Cell.{PairWithin}
 use Rattle.schema.proofs.Handed.{handed_pair}
 use Rattle.schema.proofs.Laws.{has_one, named_one, number_one}
 use Rattle.finish.specs.Reply.{Reply, outcome_of, named_of, count_of, told}
+use Rattle.grammar.specs.declared.refusal.Refusal.{Refusal}
 use Rattle.finish.specs.declared.Answer.{Answer}
 use Rattle.memo.specs.Answer.{QuestionPromise}
 use Rattle.memo.proofs.Promised.{question_answers}
@@ -113,7 +115,7 @@ module _ {rule : ℕ → Rule} {v : ℕ} {input : List ℕ} {x : Pair} {start : 
 -- ---- Answers alike.
 
 -- Over tables that were kept, whatever they held;
-pub answers_alike : {rule : ℕ → Rule} {v : ℕ} {input : List ℕ} {x : Pair} {start start₁ : Pair → ℕ × ℕ} {table table₁ table' table₁' : List ℕ} {a b : Reply} {r t : Answer}
+pub answers_alike : {rule : ℕ → Rule} {v : ℕ} {input : List ℕ} {x : Pair} {start start₁ : Pair → ℕ × ℕ} {table table₁ table' table₁' : List ℕ} {a b : Reply} {r t : Result Answer Refusal}
     → KeptAnswers rule v input x start table table' a → told r ≡ accepted a → KeptAnswers rule v input x start₁ table₁ table₁' b → told t ≡ accepted b → Alike r t
 answers_alike {a = a} {b = b} one e other f = record {
   one = a;
@@ -127,9 +129,9 @@ answers_alike {a = a} {b = b} one e other f = record {
 }
 
 -- and "the answer is the one a fresh table gives": of any question about the same, over any slices.
-pub as_fresh : (s input : List ℕ) (A p : ℕ) (table table' work work' : List ℕ) (r : Answer) → QuestionPromise s input A p table table' work work' r
+pub as_fresh : (s input : List ℕ) (A p : ℕ) (table table' work work' : List ℕ) (r : Result Answer Refusal) → QuestionPromise s input A p table table' work work' r
     → (g : Grammar) → handed s (question_of input (A at p) (length table) (length work)) ≡ accepted g
-    → {start : Pair → ℕ × ℕ} {table₁ table₁' : List ℕ} {a : Reply} {t : Answer} → KeptAnswers g.rule g.variables input (A at p) start table₁ table₁' a
+    → {start : Pair → ℕ × ℕ} {table₁ table₁' : List ℕ} {a : Reply} {t : Result Answer Refusal} → KeptAnswers g.rule g.variables input (A at p) start table₁ table₁' a
     → told t ≡ accepted a → Alike t r
 as_fresh s input A p table table' work work' r promise g accepts {a = a} k e =
     let call = question_of input (A at p) (length table) (length work) in

@@ -2,12 +2,12 @@
 use mathlib.Core.Bool.{false}
 use mathlib.Core.List.{List}
 use mathlib.Core.Logic.{◌≢◌, ◌↔◌}
-use mathlib.Core.Path.{◌≡◌, sym, ap, ◌∙◌, subst}
-use Prim.Native.Nat.{ℕ, ◌-◌, ◌≤◌, ◌<◌}
+use mathlib.Core.Path.{◌≡◌, refl, sym, ap, ◌∙◌, subst}
+use Prim.Native.Nat.{ℕ, ◌-◌, ◌<◌}
 use native.Mathlib.Omega.{arith}
 use lib.ListN.{length}
 use Rattle.calls.proofs.Count.{count_one, count_map}
-use Rattle.grammar.specs.Refusal.{Checked}
+use Rattle.grammar.specs.Refusal.{accepted}
 use Rattle.grammar.specs.Rule.{Rule}
 use Rattle.schema.specs.Cells.{held_at}
 use Rattle.schema.specs.Derivation.{Pair, ◌at◌}
@@ -94,11 +94,11 @@ module _ {rule : ℕ → Rule} {s : List ℕ} {v A p : ℕ} {start : Pair → �
         subst (Number (New rule s (A at p) start)) q k.1
 
   -- The promise of the call, where a kept table leaves a right start.
-  pub calls_over : {Kept : Type 0} → (Kept → RightCells rule v s start) → {T' W' : List ℕ} (a : Checked Reply) → Over rule v s (A at p) T₁ T' W W' a
-      → KeptCall rule v s (A at p) Kept start T T' W W' a
+  pub calls_over : {Kept : Type 0} → (Kept → RightCells rule v s start) → {T' W' : List ℕ} (a : Reply) → Over rule v s (A at p) T₁ T' W W' a
+      → KeptCall rule v s (A at p) Kept start T T' W W' (accepted a)
   calls_over right {T'} a over = record {
-    replies = over.replies;
-    accepts = over.accepts;
+    replies = a;
+    accepts = refl;
     small = over.small;
     later = over.later ∙ starts.later;
     size = over.size ∙ starts.size;

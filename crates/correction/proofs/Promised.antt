@@ -7,6 +7,7 @@ use Prim.Native.Nat.{ℕ, ◌+◌, ◌<◌}
 use native.Mathlib.Omega.{arith}
 use lib.ListN.{length}
 use borrow.Author.Tests.{lt-ltb}
+use Rattle.std.specs.Prelude.{Result}
 use Rattle.grammar.specs.Refusal.{Checked, refused, accepted, checked}
 use Rattle.grammar.specs.Rule.{Rule}
 use Rattle.grammar.specs.Sheet.{Grammar, sheet}
@@ -16,6 +17,7 @@ use Rattle.schema.specs.Table.{Within}
 use Rattle.schema.proofs.Handed.{handed_sheet, handed_input, handed_pair}
 use Rattle.schema.proofs.Small.{refusal_small}
 use Rattle.finish.specs.Reply.{Reply, told}
+use Rattle.grammar.specs.declared.refusal.Refusal.{Refusal}
 use Rattle.finish.specs.declared.Answer.{Answer}
 use Rattle.memo.specs.Answer.{Answers, QuestionPromise}
 use Rattle.memo.proofs.Promised.{question_answers}
@@ -38,7 +40,7 @@ pub answers_kept : {rule : ℕ → Rule} {v : ℕ} {input : List ℕ} {A p : ℕ
     → Answers rule v input (A at p) table table' work work' a → KeptTable rule v input table'
 answers_kept w a = asked w a.leaves
 
-pub question_kept : (s input : List ℕ) (A p : ℕ) (table table' work work' : List ℕ) (r : Answer) → QuestionPromise s input A p table table' work work' r
+pub question_kept : (s input : List ℕ) (A p : ℕ) (table table' work work' : List ℕ) (r : Result Answer Refusal) → QuestionPromise s input A p table table' work work' r
     → (g : Grammar) → handed s (question_of input (A at p) (length table) (length work)) ≡ accepted g → KeptTable g.rule g.variables input table'
 question_kept s input A p table table' work work' r promise g accepts =
     answers_kept (handed_pair s (question_of input (A at p) (length table) (length work)) g accepts (A at p) refl)
@@ -118,7 +120,7 @@ module _ (s old input : List ℕ) (A p c : ℕ) (table work : List ℕ) where
 
   -- ---- Any result.
 
-  module _ (table' work' : List ℕ) (r : Answer) (promise : CorrectionPromise s old input A p c table table' work work' r) where
+  module _ (table' work' : List ℕ) (r : Result Answer Refusal) (promise : CorrectionPromise s old input A p c table table' work work' r) where
     -- Demand 1: refused with a number exactly under its condition,
     pub refused_exactly : (x l : ℕ) → (told r ≡ refused x l) ↔ CorrectionRefuses s old input (A at p) c table (length work) x l
     refused_exactly =
@@ -155,7 +157,7 @@ module _ (s old input : List ℕ) (A p c : ℕ) (table work : List ℕ) where
     pub differs : DiffersAt c old input
     differs = correction_differs old input c table g none_own
 
-    module _ (table' work' : List ℕ) (r : Answer) (promise : CorrectionPromise s old input A p c table table' work work' r) where
+    module _ (table' work' : List ℕ) (r : Result Answer Refusal) (promise : CorrectionPromise s old input A p c table table' work work' r) where
       -- It has a reply, from any table.
       pub correction : KeptCall g.rule g.variables input (A at p) (KeptOf old table g) (retained (c + 1) (length input) table) table table' work work' (told r)
       correction =
@@ -168,7 +170,7 @@ module _ (s old input : List ℕ) (A p c : ℕ) (table work : List ℕ) where
         corrects = correction.from_kept kept
 
         -- "the answer is the one a fresh table gives", of any question about the same, over any slices,
-        pub as_fresh : (table₀ table₀' work₀ work₀' : List ℕ) (r₀ : Answer) → QuestionPromise s input A p table₀ table₀' work₀ work₀' r₀
+        pub as_fresh : (table₀ table₀' work₀ work₀' : List ℕ) (r₀ : Result Answer Refusal) → QuestionPromise s input A p table₀ table₀' work₀ work₀' r₀
             → handed s (question_of input (A at p) (length table₀) (length work₀)) ≡ accepted g → Alike r r₀
         as_fresh table₀ table₀' work₀ work₀' r₀ promise₀ accepts₀ = answered.as_fresh s input A p table₀ table₀' work₀ work₀' r₀ promise₀ g accepts₀ corrects correction.accepts
 

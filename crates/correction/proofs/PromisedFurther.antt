@@ -6,6 +6,7 @@ use mathlib.Core.Path.{◌≡◌, refl, ◌∙◌}
 use Prim.Native.Nat.{ℕ}
 use native.Mathlib.Omega.{arith}
 use lib.ListN.{length}
+use Rattle.std.specs.Prelude.{Result}
 use Rattle.grammar.specs.Refusal.{refused, accepted}
 use Rattle.grammar.specs.Sheet.{Grammar, sheet}
 use Rattle.schema.specs.Derivation.{◌at◌}
@@ -13,6 +14,7 @@ use Rattle.schema.specs.Handed.{handed, question_of}
 use Rattle.schema.specs.Table.{Within, held, contents}
 use Rattle.schema.proofs.Handed.{handed_sheet, handed_pair}
 use Rattle.finish.specs.Reply.{told}
+use Rattle.grammar.specs.declared.refusal.Refusal.{Refusal}
 use Rattle.finish.specs.declared.Answer.{Answer}
 use Rattle.memo.specs.Answer.{QuestionPromise}
 use Rattle.kept.specs.Kept.{KeptTable, further}
@@ -53,7 +55,7 @@ module _ (s input : List ℕ) (A p : ℕ) (table work : List ℕ) where
 
   -- ---- Any result.
 
-  module _ (table' work' : List ℕ) (r : Answer) (promise : FurtherPromise s input A p table table' work work' r) where
+  module _ (table' work' : List ℕ) (r : Result Answer Refusal) (promise : FurtherPromise s input A p table table' work work' r) where
     -- Demand 1: refused with a number exactly under its condition,
     pub refused_exactly : (x l : ℕ) → (told r ≡ refused x l) ↔ FurtherRefuses s input (A at p) table (length work) x l
     refused_exactly =
@@ -91,7 +93,7 @@ module _ (s input : List ℕ) (A p : ℕ) (table work : List ℕ) where
       answers = kept_call.from_kept kept
 
       -- which is the one a fresh table gives, of any question about the same, over any slices,
-      pub as_fresh : (table₀ table₀' work₀ work₀' : List ℕ) (r₀ : Answer) → QuestionPromise s input A p table₀ table₀' work₀ work₀' r₀
+      pub as_fresh : (table₀ table₀' work₀ work₀' : List ℕ) (r₀ : Result Answer Refusal) → QuestionPromise s input A p table₀ table₀' work₀ work₀' r₀
           → handed s (question_of input (A at p) (length table₀) (length work₀)) ≡ accepted g → Alike r r₀
       as_fresh table₀ table₀' work₀ work₀' r₀ promise₀ accepts₀ = answered.as_fresh s input A p table₀ table₀' work₀ work₀' r₀ promise₀ g accepts₀ answers kept_call.accepts
 

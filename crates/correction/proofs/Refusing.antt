@@ -1,6 +1,6 @@
 -- A call over a table that may hold anything is refused with a number exactly under that number's condition, where no condition that comes earlier in the
 -- order holds: of its own refusals behind a question's. Assumes nothing.
-use mathlib.Core.Bool.{Bool, true, false, cond, true≢false}
+use mathlib.Core.Bool.{Bool, false, cond, true≢false}
 use mathlib.Core.List.{List}
 use mathlib.Core.Logic.{◌≢◌, ◌↔◌}
 use mathlib.Core.Path.{◌≡◌, refl, sym, ap, ap₂, ◌∙◌}

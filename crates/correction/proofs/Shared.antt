@@ -14,7 +14,6 @@ use Rattle.schema.specs.Table.{contents}
 use Rattle.schema.proofs.Handed.{handed_sheet}
 use Rattle.schema.proofs.SheetClosed.{sheet_closed}
 use Rattle.finish.specs.Reply.{Reply, count_of, told}
-use Rattle.finish.specs.declared.Answer.{Answer}
 use Rattle.kept.specs.Kept.{Blank, KeptTable, blank}
 use Rattle.kept.proofs.Either as either
 use Rattle.correction.specs.Call.{KeptAnswers, KeptCall, KeptOf, Alike}

@@ -5,12 +5,14 @@ use mathlib.Core.Path.{◌≡◌, refl, sym, ◌∙◌, subst}
 use Prim.Native.Nat.{ℕ, ◌+◌, ◌≤◌}
 use native.Mathlib.Omega.{arith}
 use lib.ListN.{length}
+use Rattle.std.specs.Prelude.{Result}
 use Rattle.grammar.specs.Refusal.{Checked, refused, accepted, checked}
 use Rattle.grammar.specs.Sheet.{Grammar}
 use Rattle.grammar.proofs.Refusals.{Each}
 use Rattle.schema.specs.Derivation.{Pair, ◌at◌}
 use Rattle.schema.specs.Handed.{Handed, handed, question_of}
 use Rattle.finish.specs.Reply.{Reply, told}
+use Rattle.grammar.specs.declared.refusal.Refusal.{Refusal}
 use Rattle.finish.specs.declared.Answer.{Answer}
 use Rattle.kept.specs.Differs.{differs_elsewhere}
 use Rattle.kept.specs.Kept.{retained}
@@ -65,7 +67,7 @@ module _ (s old input : List ℕ) (A p c : ℕ) (table work : List ℕ) where
           ∙ own_same same g
           ∙ sym (then_tested s input (A at p) (length table) (length work) (correction_condition input input c table) unshown_order unshown_late g e)
 
-  pub beside_unshown : (table' work' : List ℕ) (r : Answer) → BesideUnshown s old input A p c table table' work work' r
+  pub beside_unshown : (table' work' : List ℕ) (r : Result Answer Refusal) → BesideUnshown s old input A p c table table' work work' r
   beside_unshown table' work' r =
       let start = retained (c + 1) (length input) table in
       record {

@@ -1,5 +1,5 @@
 -- Document 02, orders 4, 6 and 8: what is promised of a call over a table that may hold anything, and more if it was kept. Assumes nothing.
-use Rattle.std.specs.Prelude.{List, ◌≢◌, ◌≡◌, ℕ, ◌+◌, ◌*◌, ◌≤◌, length, drop}
+use Rattle.std.specs.Prelude.{List, ◌≢◌, ◌≡◌, ℕ, ◌+◌, ◌*◌, ◌≤◌, length, drop, Result}
 use Rattle.grammar.specs.Refusal.{Checked, refused, accepted}
 use Rattle.grammar.specs.Rule.{Rule}
 use Rattle.grammar.specs.Sheet.{Grammar}
@@ -7,6 +7,7 @@ use Rattle.schema.specs.Derivation.{Pair, ◌at◌, Outcome, Has}
 use Rattle.schema.specs.Reached.{Named, Number}
 use Rattle.schema.specs.Table.{Within, cells, code, held, Holds, Table}
 use Rattle.finish.specs.Reply.{Reply, reply, outcome_of, SaysSame, told}
+use Rattle.grammar.specs.declared.refusal.Refusal.{Refusal}
 use Rattle.finish.specs.declared.Answer.{Answer}
 use Rattle.kept.specs.Kept.{KeptTable}
 use Rattle.kept.specs.New.{New}
@@ -50,7 +51,7 @@ Replies (refused number line) input x Kept start table table' work work' r = (r 
 Replies (accepted g) input x Kept start table table' work work' r = KeptCall g.rule g.variables input x (Kept g) start table table' work work' r
 
 -- Two answers that are no refusals, with one outcome, a success with the same end, and one named pair; their counts may differ.
-pub record Alike (r t : Answer) : Type 0 where
+pub record Alike (r t : Result Answer Refusal) : Type 0 where
   pub one : Reply
   pub other : Reply
   pub says : told r ≡ accepted one

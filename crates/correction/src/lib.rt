@@ -5,10 +5,10 @@ ghost use Rattle.correction.specs.Correction.{CorrectionPromise};
 
 use comparison::differs_elsewhere;
 use finish::Answer;
-use grammar::sheet::{Rules, Sheet};
-use memo::too_small;
+use grammar::refusal::Refusal;
+use grammar::sheet::Rules;
+use memo::admit_question;
 use passes::retain;
-use rules::admit;
 use walk::ask_over;
 
 mod unchanged;
@@ -26,28 +26,26 @@ pub fn correct(
     c: u32,
     table: &mut [u32],
     work: &mut [u32],
-) -> Answer
+) -> Result<Answer, Refusal>
     ensures { CorrectionPromise sheet.now old.now input.now variable position c table.old table.new work.old work.new result }
 {
     let mut rules: Rules = [0u32; 256];
-    let read = admit(sheet, input, variable, position, &mut rules);
-    match read {
-        Sheet::Refused(number, line) => Answer::Refused(number, line),
-        Sheet::Read(grammar) => {
-            let variables = grammar.variables;
-            if too_small(variables, input.len(), table.len(), work.len()) {
-                return Answer::Refused(10, 0);
-            }
-            if input.len() <= c as usize {
-                return Answer::Refused(18, 0);
-            }
-            if differs_elsewhere(old, input, c as usize) {
-                return Answer::Refused(21, 0);
-            }
-            if retain(table, variables, input.len(), c + 1) {
-                return Answer::Refused(19, 0);
-            }
-            ask_over(&rules, input, variables, variable, position, table, work)
-        }
+    let grammar = admit_question(
+        sheet,
+        input,
+        variable,
+        position,
+        table.len(),
+        work.len(),
+        &mut rules,
+    )?;
+    let variables = grammar.variables;
+    if input.len() <= c as usize {
+        return Err(Refusal::Corrected);
     }
+    if differs_elsewhere(old, input, c as usize) {
+        return Err(Refusal::Entries);
+    }
+    retain(table, variables, input.len(), c + 1)?;
+    Ok(ask_over(&rules, input, variables, variable, position, table, work))
 }
