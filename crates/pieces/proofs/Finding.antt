@@ -1,5 +1,4 @@
 -- Pieces found: items, rows with one item more, choices with one row more. Assumes nothing.
-use Rattle.std.specs.Prelude.{Result, Ok, Err}
 use mathlib.Core.Bool.{true}
 use mathlib.Core.List.{List, ◌∷◌}
 use mathlib.Core.Option.{Option, none, some}
@@ -14,25 +13,12 @@ use Rattle.notation.specs.Emit.{Rules, Made, made, put, joined, bracketed, item_
 use Rattle.notation.specs.Scan.{Part, part, with_item, opened, choosing, scan, part_of}
 use Rattle.notation.specs.Text.{Bracket, opener, closer, Item, letter, quoted, fails, inside, empty, next, Choice, only, or, capital, item_cost, row_cost, choice_cost}
 use Rattle.pieces.specs.Store.{capped, Stored, StoredMade, Few, moved, Makes}
-use Rattle.pieces.specs.Piece.{begins_item, Moves, Refuses, Kind, items, rows, choices, Finds, Reads, EndsItem, EndsRow, EndsChoice}
+use Rattle.pieces.specs.Piece.{begins_item, Moves, Refuses, items, rows, choices, Finds, EndsItem, EndsChoice}
 use Rattle.pieces.specs.declared.Piece.{Piece}
 use Rattle.pieces.proofs.Bytes.{some_byte, closer_some}
 use Rattle.pieces.proofs.Scanning.{before_end, letter_moves, percent_moves, slash_moves, opens_bracket, closes_bracket, not_closed, quote_moves}
 use Rattle.pieces.proofs.Storing.{makes_none}
 use Rattle.pieces.proofs.Growing.{both_stored, bracket_stored, joined_same, or_same}
-
--- A loop goes on: from wherever a piece of this kind was read up to p, one is read up to q.
-abbrev pub Onward : (k : Kind) → List ℕ → ℕ → Piece → List ℕ → Piece → List ℕ → Type 0
-Onward k s depth p ws q ws' = (from : Piece) (before : List ℕ) → Finds k s depth from before p ws → Finds k s depth from before q ws'
-
-module _ (k : Kind) (s : List ℕ) (depth : ℕ) (from : Piece) (ws : List ℕ) (Ends : Piece → Type 0) (r : Result Piece Refusal) (ws' : List ℕ) (g : Reads k s depth from ws Ends r ws') where
-  -- What a reader's answer says: a piece,
-  pub taken : {p : Piece} → r ≡ Ok p → Finds k s depth from ws p ws' × Ends p
-  taken e = subst (λ (o : Result Piece Refusal). Reads k s depth from ws Ends o ws') e g
-
-  -- or a refusal.
-  pub faulted : {x : Refusal} → r ≡ Err x → (y : k.Context) → Refuses s depth from.at (k.before y) x
-  faulted e = subst (λ (o : Result Piece Refusal). Reads k s depth from ws Ends o ws') e g
 
 -- The numbers of a piece that is moved stop too.
 pub moved_few : (p : Piece) (at v by : ℕ) → Few p → v ≤ 257 → Few (moved p at v by)
@@ -219,19 +205,7 @@ module _ (number : ℕ → ℕ) (E : ℕ) (s : List ℕ) (depth : ℕ) where
   -- ---- Refusals.
 
   module _ (from : Piece) (ws ws' : List ℕ) where
-    -- Of an item behind a row,
-    pub row_refused : (row : Piece) (k : Refusal) → Finds (rows number E) s depth from ws row ws' → ((x : Part) → Refuses s depth row.at x k)
-        → (o : Option Choice) → Refuses s depth from.at (part o empty) k
-    row_refused row k f g o ls A os l = f.moves o ls A os l ∙ g (part o f.piece) ls A os l
-
-    -- of the first row,
-    pub first_refused : (e : Refusal) (r : Result Piece Refusal) → Reads (rows number E) s depth from ws (EndsRow s) r ws' → r ≡ Err e
-        → Reads (choices number E) s depth from ws (EndsChoice s) r ws'
-    first_refused x r g e =
-        subst (λ (o : Result Piece Refusal). Reads (choices number E) s depth from ws (EndsChoice s) o ws') (sym e)
-        (λ u. faulted (rows number E) s depth from ws (EndsRow s) r ws' g e none)
-
-    -- of a row behind a slash,
+    -- Of a row behind a slash,
     pub choice_refused : (choice : Piece) (k : Refusal) → Finds (choices number E) s depth from ws choice ws' → get_or s choice.at 0 ≡ 47
         → ((o : Option Choice) → Refuses s depth (choice.at + 1) (part o empty) k) → Refuses s depth from.at (part none empty) k
     choice_refused choice k f slash g ls A os l =

@@ -150,9 +150,7 @@ module _ (s numbers : List ℕ) (count : ℕ) (n : Numbers (firsts [] (capitals 
 pub compile_refused : (s out : List ℕ) (x : Refusal) → Bytes s → lines_of s ≡ refused (refusal_number x) (line_of x) → CompilePromise s out out (Err x)
 compile_refused s out x u e = rw (judged_refused s (length out) _ _ u e) (refl, refl)
 
+-- What is read, where lines are.
 module _ (number : ℕ → ℕ) (E : ℕ) (s : List ℕ) (from : Piece) (ws : List ℕ) (r : Result Piece Refusal) (ws' : List ℕ) (g : LinesRead number E s from ws r ws') where
   pub lines_found_law : {p : Piece} → r ≡ Ok p → LinesFound number E s from ws p ws'
   lines_found_law e = subst (λ (o : Result Piece Refusal). LinesRead number E s from ws o ws') e g
-
-  pub lines_faulted : {x : Refusal} → r ≡ Err x → lines_of s ≡ refused (refusal_number x) (line_of x)
-  lines_faulted e = subst (λ (o : Result Piece Refusal). LinesRead number E s from ws o ws') e g

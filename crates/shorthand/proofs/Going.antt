@@ -1,8 +1,7 @@
 -- The lines of a text, one after another. Assumes nothing.
-use Rattle.std.specs.Prelude.{Result, Ok, Err}
 use mathlib.Core.Bool.{Bool, false}
 use mathlib.Core.List.{List, [], ◌∷◌, ◌++◌}
-use mathlib.Core.Path.{◌≡◌, refl, ap, ◌∙◌, subst}
+use mathlib.Core.Path.{◌≡◌, refl, ap, ◌∙◌}
 use Prim.Native.Nat.{ℕ, suc, ◌+◌, ◌-◌, ◌≤◌, ◌<◌}
 use native.Mathlib.Omega.{arith}
 use lib.ListN.{length, drop, replicate, get_or-replicate, length-replicate}
@@ -17,7 +16,7 @@ use Rattle.letters.proofs.Lettered.{index_in}
 use Rattle.pieces.specs.Store.{capped, Stored, Few}
 use Rattle.pieces.specs.declared.Piece.{Piece}
 use Rattle.pieces.proofs.Scanning.{at_end_law}
-use Rattle.shorthand.specs.Lines.{Defines, LineFinds, LineReads, LinesFound}
+use Rattle.shorthand.specs.Lines.{Defines, LineFinds, LinesFound}
 
 -- No letter has a line yet.
 defines_none : {lines : List Bool} → lines ≡ replicate 26 false → Defines [] lines
@@ -98,11 +97,3 @@ pub empty_text : (s : List ℕ) → length s ≡ 0 → lines_of s ≡ refused 15
 unfolding scan
 empty_text [] e = refl
 empty_text (b ∷ s) e = absurd (omega arith)
-
-module _ (number : ℕ → ℕ) (E : ℕ) (s : List ℕ) (from : Piece) (lines : List Bool) (ws : List ℕ) (r : Result Piece Refusal) (lines' : List Bool) (ws' : List ℕ)
-    (g : LineReads number E s from lines ws r lines' ws') where
-  pub line_found_law : {p : Piece} → r ≡ Ok p → LineFinds number E s from lines ws p lines' ws'
-  line_found_law e = subst (λ (o : Result Piece Refusal). LineReads number E s from lines ws o lines' ws') e g
-
-  pub line_faulted : {x : Refusal} → r ≡ Err x → (ls : List Line) → Defines ls lines → scan (drop from.at s) (before ls) ≡ refused (number_of x) (line_of x)
-  line_faulted e = subst (λ (o : Result Piece Refusal). LineReads number E s from lines ws o lines' ws') e g
