@@ -10,26 +10,23 @@ fn leading_byte(x: u32) -> u8
     ensures { result ≡ leading_byte x }
 {
     if x == 0 {
-        return 32;
+        return b' ';
     }
-    (48 + x % 10) as u8
+    b'0' + (x % 10) as u8
 }
 
 // Writes the number x over all columns of out, from the last to the first.
 pub fn write_field(out: &mut [u8], x: u32)
     ensures { out.new ≡ column (length out.old) x }
 {
-    let mut at = out.len();
-    if at == 0 {
+    let Some((last, front)) = out.split_last_mut() else {
         return;
-    }
-    at -= 1;
-    out[at] = (48 + x % 10) as u8;
+    };
+    *last = b'0' + (x % 10) as u8;
     let mut left = x / 10;
-    while 0 < at {
-        at -= 1;
-        out[at] = leading_byte(left);
-        left = left / 10;
+    for at in (0..front.len()).rev() {
+        front[at] = leading_byte(left);
+        left /= 10;
     }
 }
 
@@ -39,11 +36,9 @@ pub fn write_row(out: &mut [u8], width: usize, numbers: &[u32])
     ensures { out.new ≡ row width numbers.now }
 {
     let mut at = out.len() - 1;
-    out[at] = 10;
-    let mut left = numbers.len();
-    while 0 < left {
-        left -= 1;
+    out[at] = b'\n';
+    for x in numbers.iter().rev() {
         at -= width;
-        write_field(&mut out[at..at + width], numbers[left]);
+        write_field(&mut out[at..at + width], *x);
     }
 }
