@@ -102,10 +102,11 @@ fn look(
     if out {
         return Err(Refusal::Cell);
     }
-    if changes {
-        return Ok(first.min(from as u32));
-    }
-    Ok(first)
+    Ok(if changes {
+        first.min(from as u32)
+    } else {
+        first
+    })
 }
 
 // Looks at a row, which begins at a number. What is left behind the last whole block is passed over where the row ends with as many blank cells as a block
