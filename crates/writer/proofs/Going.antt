@@ -20,7 +20,7 @@ use Rattle.cells.specs.Packed.{packed}
 use Rattle.step.specs.Codes.{Settled}
 use Rattle.step.proofs.Looking.{result_is}
 use Rattle.lines.specs.declared.Stand.{Stand}
-use Rattle.writer.specs.declared.Step.TheVariants as step
+use Rattle.std.specs.declared.ops.ControlFlow.TheVariants.{Continue, Break}
 use Rattle.writer.specs.Writer.{Unwritten, Visits, passed, leaf, node}
 use Rattle.lines.specs.Turning.{number_of, link, no_link, Lower, to_first, to_second, Own, of_leaf, of_calls}
 use Rattle.writer.specs.Writing.{pair_at, StepReady, Descends, Lays, Returns, Steps, WriteReady, WriteEnds}
@@ -325,9 +325,9 @@ module _ {rule : ℕ → Rule} {s : List ℕ} {v A p : ℕ} {T U out₀ : List �
         }
 
     -- A step that goes on, and one that ends.
-    pub goes_on : {W' out' : List ℕ} (z : Stand) → Steps rule s T W out W' out' y (step.On z)
+    pub goes_on : {W' out' : List ℕ} (z : Stand) → Steps rule s T W out W' out' y (Continue z)
         → Going rule s v (A at p) U out₀ W' out' (pair_at z) z.lines × (to_do W' (cells v (length s)) < to_do W (cells v (length s)))
     goes_on z h = elim h [ inl d ↦ goes_down d | inr b ↦ goes_back b.0 b.1 ]
 
-    pub ends : {W' out' : List ℕ} (count : ℕ) → Steps rule s T W out W' out' y (step.Ended count) → WriteEnds rule s v (A at p) U W' out₀ out' count
+    pub ends : {W' out' : List ℕ} (count : ℕ) → Steps rule s T W out W' out' y (Break count) → WriteEnds rule s v (A at p) U W' out₀ out' count
     ends count h = goes_end h.0 h.1 h.2

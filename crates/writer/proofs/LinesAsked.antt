@@ -1,63 +1,34 @@
--- Asking and writing, step by step: the work slice blanked and the asked pair linked, and the table that the question leaves. Assumes nothing.
+-- Asking and writing, step by step: where the lines end, for the work slice as it was, and the table that the question leaves. Assumes nothing.
 use mathlib.Core.Path.{◌≡◌, refl, sym, ap, ◌∙◌, subst}
-use mathlib.Core.Bool.{Bool, true, false, true≢false}
+use mathlib.Core.Bool.{true, false, true≢false}
 use mathlib.Core.List.{List, []}
-use Prim.Native.Nat.{ℕ, ◌≤◌, ◌<◌}
+use Prim.Native.Nat.{ℕ, ◌<◌}
 use native.Mathlib.Omega.{arith}
-use lib.ListN.{length, get_or, set, drop, length-set}
-use lib.Seq.{drop-set-lt, get_or-set_same, get_or-set_other}
-use Rattle.grammar.specs.Refusal.{Checked, accepted}
+use lib.ListN.{length, set, drop, length-set}
+use lib.Seq.{drop-set-lt}
 use Rattle.grammar.specs.Rule.{Rule}
 use Rattle.schema.specs.Derivation.{Pair, ◌at◌, Result, Outcome, result, stopped, loop, Has}
 use Rattle.schema.specs.Line.{lines_bytes}
-use Rattle.schema.specs.Table.{cell, cells, code, decided, held, Holds}
+use Rattle.schema.specs.Table.{cell, cells, code, held, Holds}
 use Rattle.schema.proofs.Answer.{reached_cell}
 use Rattle.schema.proofs.Cell.{PairWithin, cell_below}
 use Rattle.schema.proofs.Ends.{ends_in, derives_ends}
 use Rattle.schema.proofs.Laws.{has_one}
 use Rattle.finish.specs.Reply.{Reply, reply, outcome_of}
-use Rattle.memo.specs.Answer.{Says}
+use Rattle.memo.specs.Answer.{Answers}
 use Rattle.step.specs.Codes.{Settled}
-use Rattle.cells.proofs.Numbers.{cells_small}
-use Rattle.walk.proofs.Cleared.{cleared, cleared_at, cleared_length, cleared_later}
-use Rattle.writer.specs.Writer.{Lines, SaysWriting}
+use Rattle.walk.proofs.Cleared.{cleared, cleared_length, cleared_later}
+use Rattle.writer.specs.Writer.{Lines, Writes}
 use Rattle.lines.specs.Turning.{no_link}
-use Rattle.writer.specs.Writing.{WriteReady, WriteEnds, AskWriteReady, LinesReady, has_result}
+use Rattle.writer.specs.Writing.{WriteEnds, AskWriteReady, LinesReady, has_result}
 
 module _ {rule : ℕ → Rule} {s : List ℕ} {v A p : ℕ} {T W out : List ℕ} (r : LinesReady rule s v A p T W out) {W₁ : List ℕ}
     (e : W₁ ≡ cleared (cells v (length s)) W) {root : ℕ} (i : root ≡ cell (length s) (A at p)) where
   root_below : root < cells v (length s)
   root_below = let b = cell_below v (length s) (A at p) r.ready.within in omega arith
 
-  pub root_small : root ≤ 1048831
-  root_small = let b = root_below in let c = cells_small v (length s) r.ready.few r.ready.short in omega arith
-
   work_length : length W₁ ≡ length W
   work_length = ap length e ∙ cleared_length (cells v (length s)) W r.ready.work_room
-
-  -- The asked pair's number is in the work slice.
-  pub root_in : root < length W₁
-  root_in = let b = root_below in let l = work_length in let w = r.ready.work_room in omega arith
-
-  -- The writer may go.
-  pub may_write : WriteReady rule s v A p T (set W₁ root no_link) out
-  may_write =
-      let q = r.ready in
-      let l = work_length in
-      let k = length-set W₁ root no_link in
-      let w = q.work_room in
-      record {
-        lines = record {
-          ready = record { few = q.few; short = q.short; closed = q.closed; within = q.within; room = q.room; work_room = omega arith };
-          finished = r.finished;
-          found = r.found;
-          has = r.has;
-          out_room = r.out_room;
-        };
-        root = ap (λ (j : ℕ). get_or (set W₁ root no_link) j 0) (sym i) ∙ get_or-set_same W₁ root no_link 0 root_in;
-        others = λ j b d.
-            get_or-set_other W₁ root j no_link 0 (λ u. d (u ∙ i)) ∙ ap (λ (L : List ℕ). get_or L j 0) e ∙ cleared_at (cells v (length s)) W j b;
-      }
 
   -- Where it ends, for the work slice as it was.
   pub lines_end : {W₂ out₂ : List ℕ} {count : ℕ} → WriteEnds rule s v (A at p) (set W₁ root no_link) W₂ out out₂ count
@@ -83,81 +54,63 @@ settled_at {rule} {s} T v (A at p) t w h d = record {
 
 -- ---- The question, and its lines.
 
-result_of_law : (o : Outcome) (z : Pair) (count : ℕ) → has_result (accepted (reply o z count)) ≡ true → (r : Result) × (o ≡ result r)
-result_of_law (result r) z count e = (r, refl)
-result_of_law (stopped w) z count e = absurd (true≢false (cc))
-result_of_law loop z count e = absurd (true≢false (cc))
+result_of_law : (a : Reply) → has_result a ≡ true → (r : Result) × (outcome_of a ≡ result r)
+result_of_law (reply (result r) z count) e = (r, refl)
+result_of_law (reply (stopped w) z count) e = absurd (true≢false (cc))
+result_of_law (reply loop z count) e = absurd (true≢false (cc))
 
-nothing_written : (rule : ℕ → Rule) (s : List ℕ) (x : Pair) (o : Outcome) (z : Pair) (count : ℕ) → has_result (accepted (reply o z count)) ≡ false → Lines rule s x o []
-nothing_written rule s x (result r) z count e = absurd (true≢false (cc))
-nothing_written rule s x (stopped w) z count e = refl
-nothing_written rule s x loop z count e = refl
+nothing_written : (rule : ℕ → Rule) (s : List ℕ) (x : Pair) (a : Reply) → has_result a ≡ false → Lines rule s x (outcome_of a) []
+nothing_written rule s x (reply (result r) z count) e = absurd (true≢false (cc))
+nothing_written rule s x (reply (stopped w) z count) e = refl
+nothing_written rule s x (reply loop z count) e = refl
 
-module _ {rule : ℕ → Rule} {s : List ℕ} {v A p : ℕ} {T W out : List ℕ} (r : AskWriteReady rule s v A p T W out) {T₁ W₁ : List ℕ} (t : Checked Reply)
-    (a : Says rule v s (A at p) T T₁ W W₁ t) {b : Bool} (test : b ≡ has_result t) where
-  told_is : t ≡ accepted (reply a.2.outcome a.2.named (decided (cells v (length s)) T₁))
-  told_is = a.1 ∙ ap accepted a.2.says
-
-  test_is : b ≡ has_result (accepted (reply a.2.outcome a.2.named (decided (cells v (length s)) T₁)))
-  test_is = test ∙ ap has_result told_is
-
-  outcome_is : outcome_of a.0 ≡ a.2.outcome
-  outcome_is = ap outcome_of a.2.says
+module _ {rule : ℕ → Rule} {s : List ℕ} {v A p : ℕ} {T W out : List ℕ} (r : AskWriteReady rule s v A p T W out) {T₁ W₁ : List ℕ} {a : Reply}
+    (answers : Answers rule v s (A at p) T T₁ W W₁ a) where
+  outcome_is : outcome_of a ≡ answers.outcome
+  outcome_is = ap outcome_of answers.says
 
   -- Loop and missing: nothing is written.
-  pub says_nothing : b ≡ false → SaysWriting rule v s (A at p) T T₁ W W₁ out out t 0
+  pub writes_nothing : has_result a ≡ false → Writes rule s (A at p) (outcome_of a) out out 0
   unfolding lines_bytes
-  says_nothing f = (
-    a.0,
-    a.1,
-    a.2,
-    record {
-      lines = [];
-      ordered = subst (λ (o : Outcome). Lines rule s (A at p) o []) (sym outcome_is) (nothing_written rule s (A at p) a.2.outcome a.2.named (decided (cells v (length s)) T₁) (sym test_is ∙ f));
-      counted = refl;
-      written = refl;
-    },
-  )
+  writes_nothing f = record { lines = []; ordered = nothing_written rule s (A at p) a f; counted = refl; written = refl }
 
-  module _ (f : b ≡ true) where
+  module _ (f : has_result a ≡ true) where
     -- Success and failure: the lines may be written,
     pub may_write_lines : LinesReady rule s v A p T₁ W₁ out
     may_write_lines =
-        let k = result_of_law a.2.outcome a.2.named (decided (cells v (length s)) T₁) (sym test_is ∙ f) in
-        let z = a.2.leaves.size in
-        let y = a.2.size in
+        let k = result_of_law a f in
+        let z = answers.leaves.size in
+        let y = answers.size in
         let q = r.ready in
         let m = q.room in
         let n = q.work_room in
         record {
           ready = record { few = q.few; short = q.short; closed = q.closed; within = q.within; room = omega arith; work_room = omega arith };
-          finished = λ y t h d. settled_at T₁ v y t (reached_cell rule s v q.closed (A at p) q.within h).0 (a.2.leaves.holds y h) d;
+          finished = λ y t h d. settled_at T₁ v y t (reached_cell rule s v q.closed (A at p) q.within h).0 (answers.leaves.holds y h) d;
           found = k.0;
-          has = subst (Has rule s (A at p)) k.1 a.2.has;
+          has = subst (Has rule s (A at p)) (sym outcome_is ∙ k.1) answers.has;
           out_room = r.out_room;
         }
 
-    -- and are the question's.
-    pub says_lines : {W₂ out₂ : List ℕ} {count : ℕ} → WriteEnds rule s v (A at p) W₁ W₂ out out₂ count → SaysWriting rule v s (A at p) T T₁ W W₂ out out₂ t count
-    says_lines h =
-        let k = result_of_law a.2.outcome a.2.named (decided (cells v (length s)) T₁) (sym test_is ∙ f) in
-        let m = a.2 in (
-          a.0,
-          a.1,
-          record {
-            outcome = m.outcome;
-            named = m.named;
-            has = m.has;
-            names = m.names;
-            says = m.says;
-            leaves = m.leaves;
-            beyond = h.beyond ∙ m.beyond;
-            size = h.size ∙ m.size;
-          },
-          record {
-            lines = h.lines;
-            ordered = subst (λ (o : Outcome). Lines rule s (A at p) o h.lines) (sym (outcome_is ∙ k.1)) h.ordered;
-            counted = h.counted;
-            written = h.written;
-          },
-        )
+    module _ {W₂ out₂ : List ℕ} {count : ℕ} (h : WriteEnds rule s v (A at p) W₁ W₂ out out₂ count) where
+      -- and the question is still answered,
+      pub answers_still : Answers rule v s (A at p) T T₁ W W₂ a
+      answers_still = record {
+        outcome = answers.outcome;
+        named = answers.named;
+        has = answers.has;
+        names = answers.names;
+        says = answers.says;
+        leaves = answers.leaves;
+        beyond = h.beyond ∙ answers.beyond;
+        size = h.size ∙ answers.size;
+      }
+
+      -- with its lines.
+      pub writes_lines : Writes rule s (A at p) (outcome_of a) out out₂ count
+      writes_lines = record {
+        lines = h.lines;
+        ordered = subst (λ (o : Outcome). Lines rule s (A at p) o h.lines) (sym (result_of_law a f).1) h.ordered;
+        counted = h.counted;
+        written = h.written;
+      }

@@ -6,6 +6,8 @@ use mathlib.Core.List.{List, [], ◌∷◌, ◌++◌}
 use mathlib.Core.Logic.{inl, inr}
 use Prim.Native.Nat.{ℕ, ◌*◌}
 use lib.ListN.{length, drop}
+use Rattle.std.specs.Prelude.{Result as Checkable}
+use Rattle.grammar.specs.declared.refusal.Refusal.{Refusal}
 use Rattle.grammar.specs.Refusal.{Checked, refused, accepted}
 use Rattle.grammar.specs.Rule.{Rule}
 use Rattle.grammar.specs.Sheet.{Grammar}
@@ -13,9 +15,9 @@ use Rattle.schema.specs.Derivation.{Pair, ◌at◌, Result, second, Outcome, res
 use Rattle.schema.specs.Handed.{Handed, handed, writer_of}
 use Rattle.schema.specs.Line.{Line, line_of, lines_bytes, Stands}
 use Rattle.schema.proofs.Handed.{handed_pair}
-use Rattle.finish.specs.Reply.{outcome_of, told}
+use Rattle.finish.specs.Reply.{outcome_of}
 use Rattle.memo.proofs.Result.{one_answer, one_table}
-use Rattle.writer.specs.Writer.{Unwritten, Visits, passed, leaf, node, Lines, Writes, RepliesWriting, WriterPromise}
+use Rattle.writer.specs.Writer.{Unwritten, Visits, passed, leaf, node, Lines, Writes, RepliesWriting, WriterPromise, told, lines_in}
 use Rattle.writer.specs.declared.Written.{Written}
 use Rattle.schema.proofs.Lines.{stands_none, stands_cases}
 use Rattle.schema.proofs.Parts.{calls_one}
@@ -88,18 +90,18 @@ module _ (s input : List ℕ) (A p : ℕ) (table work out : List ℕ) where
   abbrev call : Handed
   call = writer_of input (A at p) (length table) (length work) (length out)
 
-  pub one_written : (table' table'' work' work'' out' out'' : List ℕ) (r t : Written) → WriterPromise s input A p table table' work work' out out' r
+  pub one_written : (table' table'' work' work'' out' out'' : List ℕ) (r t : Checkable Written Refusal) → WriterPromise s input A p table table' work work' out out' r
       → WriterPromise s input A p table table'' work work'' out out'' t
-      → (told r.answer ≡ told t.answer) × (table' ≡ table'') × (out' ≡ out'') × (r.lines ≡ t.lines)
+      → (told r ≡ told t) × (table' ≡ table'') × (out' ≡ out'') × (lines_in r ≡ lines_in t)
   one_written table' table'' work' work'' out' out'' r t one other = by_sheet (handed s call) refl one other
     where
       by_sheet : (o : Checked Grammar) → handed s call ≡ o
-          → RepliesWriting o input (A at p) table table' work work' out out' (told r.answer) r.lines
-          → RepliesWriting o input (A at p) table table'' work work'' out out'' (told t.answer) t.lines
-          → (told r.answer ≡ told t.answer) × (table' ≡ table'') × (out' ≡ out'') × (r.lines ≡ t.lines)
+          → RepliesWriting o input (A at p) table table' work work' out out' (told r) (lines_in r)
+          → RepliesWriting o input (A at p) table table'' work work'' out out'' (told t) (lines_in t)
+          → (told r ≡ told t) × (table' ≡ table'') × (out' ≡ out'') × (lines_in r ≡ lines_in t)
       by_sheet (refused x l) e m k = (m.0 ∙ sym k.0, m.1 ∙ sym k.1, m.3 ∙ sym k.3, m.4 ∙ sym k.4)
       by_sheet (accepted g) e m k =
           let within = handed_pair s call g e (A at p) refl in
           let same = one_answer s call g e (A at p) within m.2 k.2 in
-          let wrote = writes_one g.rule input (A at p) _ _ out out' out'' r.lines t.lines (ap outcome_of same) m.3 k.3 in
+          let wrote = writes_one g.rule input (A at p) _ _ out out' out'' (lines_in r) (lines_in t) (ap outcome_of same) m.3 k.3 in
           (m.1 ∙ ap accepted same ∙ sym k.1, one_table s call g e (A at p) within m.2 k.2, wrote.0, wrote.1)

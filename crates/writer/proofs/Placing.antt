@@ -1,17 +1,14 @@
--- What a step of the writer asks of the functions that it calls. Assumes nothing.
+-- What a step of the writer asks where it goes down. Assumes nothing.
 use mathlib.Core.List.{List}
-use Prim.Native.Nat.{ℕ, ◌+◌, ◌-◌, ◌*◌, ◌≤◌, ◌<◌}
+use Prim.Native.Nat.{ℕ, ◌≤◌, ◌<◌}
 use native.Mathlib.Omega.{arith}
 use lib.ListN.{length}
 use Rattle.grammar.specs.Rule.{Rule}
 use Rattle.schema.specs.Closed.{Closed}
 use Rattle.schema.specs.Derivation.{Pair, ◌at◌}
-use Rattle.schema.specs.Cells.{HasCell}
-use Rattle.schema.specs.Table.{cell, held}
-use Rattle.schema.proofs.Cell.{PairWithin, cell_below}
-use Rattle.step.specs.Codes.{Code, first_called, second_called}
-use Rattle.walk.proofs.Marks.{code_of}
-use Rattle.cells.proofs.Numbers.{cells_small}
+use Rattle.schema.specs.Table.{cell}
+use Rattle.schema.proofs.Cell.{PairWithin}
+use Rattle.step.specs.Codes.{first_called, second_called}
 use Rattle.step.proofs.Within.{called_within}
 use Rattle.lines.specs.Turning.{Lower, to_first, to_second}
 use Rattle.writer.specs.Writing.{StepReady, pair_at}
@@ -37,26 +34,3 @@ module _ {rule : ℕ → Rule} {s : List ℕ} {v : ℕ} {T W out : List ℕ} {x 
       let f = t.few in
       let g = t.short in
       (k.0, k.1, k.2, k.3, k.4, omega arith, omega arith)
-
-  here : (1 ≤ x.variable) × (x.variable ≤ 256) × (length s ≤ 4096) × (x.position ≤ length s) × (cell (length s) (pair_at x) < length W)
-  here = let t = q.turns in let i = t.within in cell_in v (length s) W x.variable x.position t.few t.short t.work_room i.variable i.position
-
-  -- There is room for one line more,
-  pub lines_small : x.lines < 1048832
-  lines_small = let c = cells_small v (length s) q.turns.few q.turns.short in let l = q.few_lines in omega arith
-
-  -- which may be laid down,
-  pub lay_ready : (1 ≤ x.variable) × (x.variable ≤ 256) × (length s ≤ 4096) × (x.position ≤ length s) × HasCell T (cell (length s) (pair_at x))
-      × Code (held (length s) T (pair_at x)) × (49 * x.lines + 49 ≤ length out)
-  lay_ready =
-      let t = q.turns in
-      let h = here in
-      let k = cell_below v (length s) (pair_at x) t.within in
-      let m = t.room in
-      let l = q.few_lines in
-      let o = q.out_room in
-      (h.0, h.1, h.2, h.3, omega arith, code_of (length s) (held (length s) T (pair_at x)) t.found t.settled, omega arith)
-
-  -- and its number noted.
-  pub note_ready : (1 ≤ x.variable) × (x.variable ≤ 256) × (length s ≤ 4096) × (x.position ≤ length s) × (cell (length s) (pair_at x) < length W) × (x.lines < 1048832)
-  note_ready = let h = here in (h.0, h.1, h.2, h.3, h.4, lines_small)

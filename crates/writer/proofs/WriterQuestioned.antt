@@ -1,28 +1,30 @@
 -- The writer, from its admission on. Assumes nothing.
-use mathlib.Core.Path.{◌≡◌, refl, sym, ap, ◌∙◌, subst}
+use mathlib.Core.Path.{◌≡◌, refl, sym, ap, ◌∙◌}
 use mathlib.Core.Bool.{Bool, true, false, cond, ◌||◌}
 use mathlib.Core.List.{List}
 use Prim.Native.Nat.{ℕ, ◌*◌}
 use lib.Dec.{ltb}
 use lib.ListN.{length}
 use borrow.Author.Tests.{ltb-false}
+use Rattle.std.specs.Prelude.{Result as Checkable, Ok, Err}
+use Rattle.grammar.specs.Numbers.{number_of, line_of}
 use Rattle.grammar.specs.Refusal.{Checked, refused, accepted, checked}
-use Rattle.grammar.specs.Rule.{Rule}
 use Rattle.grammar.specs.Sheet.{Grammar, sheet}
 use Rattle.grammar.specs.Words.{rule_in}
 use Rattle.grammar.specs.declared.sheet.Grammar.{Grammar as Line}
-use Rattle.grammar.specs.declared.sheet.Sheet.{Sheet}
-use Rattle.grammar.specs.declared.sheet.Sheet.TheVariants.{Read, Refused}
-use Rattle.rules.specs.Admission.{Admission}
+use Rattle.grammar.specs.declared.refusal.Refusal.{Refusal}
+use Rattle.grammar.proofs.Told.{Reads}
+use Rattle.rules.specs.Admission.{Admits}
 use Rattle.schema.specs.Derivation.{◌at◌}
 use Rattle.schema.specs.Handed.{pair_variable_out, pair_position_out, call_condition, call_order, handed, question_of, writer_of}
 use Rattle.schema.specs.Table.{cells}
-use Rattle.schema.proofs.Tested.{handed_refused, handed_then, question_follows}
-use Rattle.rules.proofs.Admitted.{not_admitted}
-use Rattle.finish.specs.Reply.{Reply}
-use Rattle.writer.specs.Writer.{SaysWriting, RepliesWriting}
+use Rattle.schema.proofs.Tested.{handed_refused, handed_then}
+use Rattle.finish.specs.Reply.{Reply, outcome_of}
+use Rattle.writer.specs.Writer.{Writes, SaysWriting, RepliesWriting}
 use Rattle.writer.specs.Writing.{AskWriteReady}
-use Rattle.memo.proofs.Questioned.{read, follows, tested_is, ask_ready}
+use Rattle.memo.specs.Answer.{Answers}
+use Rattle.memo.proofs.Questioned.{ask_ready}
+use Rattle.memo.proofs.Ready as ready
 
 -- What the writer tests after a question's refusals: 11.
 abbrev with_output : ℕ → ℕ → Checked Grammar → Checked Grammar
@@ -59,61 +61,42 @@ module _ (s input : List ℕ) (A p table work out : ℕ) where
           handed_then s (writer_of input (A at p) table work out) g h ∙ then_tested g
           ∙ ap (with_output (length input) out) (sym (handed_then s (question_of input (A at p) table work) g h))
 
-module _ {s input : List ℕ} {A p : ℕ} {before after : List ℕ} {r : Sheet} (admission : Admission s input A p before after r) (table work out : List ℕ) where
-  abbrev Result : Checked Reply → ℕ → List ℕ → List ℕ → List ℕ → Type 0
-  Result t count table' work' out' =
+module _ (s input : List ℕ) (A p : ℕ) (table work out : List ℕ) {before after : List ℕ} {r : Checkable Line Refusal}
+    (admission : Admits s (question_of input (A at p) (length table) (length work)) before after r) where
+  -- The call with its answer, its count of lines and what it leaves.
+  abbrev Replied : Checked Reply → ℕ → List ℕ → List ℕ → List ℕ → Type 0
+  Replied t count table' work' out' =
       RepliesWriting (handed s (writer_of input (A at p) (length table) (length work) (length out))) input (A at p) table table' work work' out out' t count
 
-  -- Refused before the slices are looked at.
-  pub writer_refused : {x l count : ℕ} {t : Checked Reply} → r ≡ Refused x l → t ≡ refused x l → count ≡ 0 → Result t count table work out
-  writer_refused {x} {l} e t k =
-      let h = not_admitted s input A p before after r admission x l e in
-      rw (writer_follows s input A p (length table) (length work) (length out), question_follows s input A p (length table) (length work) (refused x l) h)
+  -- Refused as the question is.
+  pub writer_refused : {n : Refusal} {t : Checked Reply} {count : ℕ} → r ≡ Err n → t ≡ refused (number_of n) (line_of n) → count ≡ 0 → Replied t count table work out
+  writer_refused e t k =
+      rw (writer_follows s input A p (length table) (length work) (length out), ready.not_admitted s (question_of input (A at p) (length table) (length work)) admission e)
       (t, refl, refl, refl, k)
 
-  module _ {g : Line} (e : r ≡ Read g)
-      {small : Bool} (tested : small ≡ (ltb (length table) (2 * cells g.variables (length input)) || ltb (length work) (cells g.variables (length input)))) where
-    -- Refused for a slice that is too small,
-    pub writer_slices : {count : ℕ} {t : Checked Reply} → small ≡ true → t ≡ refused 10 0 → count ≡ 0 → Result t count table work out
-    writer_slices h t k =
-        rw (writer_follows s input A p (length table) (length work) (length out), follows admission table work e, tested_is admission table work e tested, h)
-        (t, refl, refl, refl, k)
+  module _ {g : Line} (e : r ≡ Ok g) {few : Bool} (measured : few ≡ ltb (length out) (49 * cells g.variables (length input))) where
+    abbrev read : Reads (handed s (question_of input (A at p) (length table) (length work))) g
+    read = ready.admitted s (question_of input (A at p) (length table) (length work)) admission e
 
-    module _ {few : Bool} (measured : few ≡ ltb (length out) (49 * cells g.variables (length input))) (h : small ≡ false) where
-      measured_is : ltb (length out) (49 * cells (read admission table work e).grammar.variables (length input)) ≡ few
-      measured_is = rw (read admission table work e).variables_are (sym measured)
+    follows : handed s (writer_of input (A at p) (length table) (length work) (length out)) ≡ cond few (refused 11 0) (accepted read.grammar)
+    follows = writer_follows s input A p (length table) (length work) (length out) ∙ rw (read.accepts, read.variables_are, measured)
 
-      -- or for the output.
-      pub writer_output : {count : ℕ} {t : Checked Reply} → few ≡ true → t ≡ refused 11 0 → count ≡ 0 → Result t count table work out
-      writer_output f t k =
-          rw (
-            writer_follows s input A p (length table) (length work) (length out),
-            follows admission table work e,
-            tested_is admission table work e tested,
-            h,
-            measured_is,
-            f,
-          ) (t, refl, refl, refl, k)
+    -- Refused for the output.
+    pub writer_output : few ≡ true → Replied (refused 11 0) 0 table work out
+    writer_output f = rw (follows, f) (refl, refl, refl, refl, refl)
 
-      -- What asking and writing is handed.
-      pub write_ready : few ≡ false → AskWriteReady (rule_in after) input g.variables A p table work out
-      write_ready f = record {
-        ready = ask_ready admission table work e tested h;
-        out_room = ltb-false (length out) (49 * cells g.variables (length input)) (sym measured ∙ f);
-      }
+    -- What asking and writing is handed.
+    pub write_ready : few ≡ false → AskWriteReady (rule_in after) input g.variables A p table work out
+    write_ready f = record {
+      ready = ask_ready s input A p table work admission e;
+      out_room = ltb-false (length out) (49 * cells g.variables (length input)) (sym measured ∙ f);
+    }
 
-      -- The answer with its lines.
-      pub writer_replies : {table' work' out' : List ℕ} {t : Checked Reply} {count : ℕ} → few ≡ false
-          → SaysWriting (rule_in after) g.variables input (A at p) table table' work work' out out' t count → Result t count table' work' out'
-      writer_replies {table'} {work'} {out'} {t} {count} f a =
-          let q = read admission table work e in
-          rw (
-            writer_follows s input A p (length table) (length work) (length out),
-            follows admission table work e,
-            tested_is admission table work e tested,
-            h,
-            measured_is,
-            f,
-          )
-          (subst (λ (v : ℕ). SaysWriting q.grammar.rule v input (A at p) table table' work work' out out' t count) (sym q.variables_are)
-          (subst (λ (k : ℕ → Rule). SaysWriting k g.variables input (A at p) table table' work work' out out' t count) q.rules_are a))
+    -- The answer with its lines.
+    pub writer_replies : {table' work' out' : List ℕ} {a : Reply} {count : ℕ} → few ≡ false
+        → Answers (rule_in after) g.variables input (A at p) table table' work work' a → Writes (rule_in after) input (A at p) (outcome_of a) out out' count
+        → Replied (accepted a) count table' work' out'
+    writer_replies {table'} {work'} {out'} {a} {count} f answers writes =
+        rw (follows, f)
+        (ready.of_grammar s (question_of input (A at p) (length table) (length work)) admission e
+        (λ k v B. SaysWriting k v input (A at p) table table' work work' out out' (accepted a) count) (a, refl, answers, writes))

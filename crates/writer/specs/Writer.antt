@@ -1,12 +1,14 @@
 -- Document 01, "Readings": the writer. Assumes nothing.
-use Rattle.std.specs.Prelude.{List, [], ◌∷◌, ◌++◌, ◌≡◌, ℕ, ◌*◌, length, drop}
+use Rattle.std.specs.Prelude.{List, [], ◌∷◌, ◌++◌, ◌≡◌, ℕ, ◌*◌, length, drop, Result as Checkable, Ok, Err}
+use Rattle.grammar.specs.Numbers.{checked_as}
 use Rattle.grammar.specs.Refusal.{Checked, refused, accepted}
 use Rattle.grammar.specs.Rule.{Rule}
 use Rattle.grammar.specs.Sheet.{Grammar}
+use Rattle.grammar.specs.declared.refusal.Refusal.{Refusal}
 use Rattle.schema.specs.Derivation.{Pair, ◌at◌, Result, gives, calls, act, second, Outcome, result, stopped, loop}
 use Rattle.schema.specs.Handed.{handed, writer_of}
 use Rattle.schema.specs.Line.{Line, line_of, lines_bytes, Stands}
-use Rattle.finish.specs.Reply.{Reply, outcome_of, told}
+use Rattle.finish.specs.Reply.{Reply, reply_of, outcome_of}
 use Rattle.memo.specs.Answer.{Answers}
 use Rattle.writer.specs.declared.Written.{Written}
 
@@ -50,8 +52,17 @@ RepliesWriting (refused number line) input x table table' work work' out out' r 
 RepliesWriting (accepted g) input x table table' work work' out out' r count =
     SaysWriting g.rule g.variables input x table table' work work' out out' r count
 
+-- What the writer says of its question,
+abbrev pub told : Checkable Written Refusal → Checked Reply
+told = checked_as (λ w. reply_of w.answer)
+
+-- and the count of lines that it adds, 0 where it is refused.
+abbrev pub lines_in : Checkable Written Refusal → ℕ
+lines_in (Ok w) = w.lines
+lines_in (Err e) = 0
+
 -- The promise of the writer.
-abbrev pub WriterPromise : List ℕ → List ℕ → ℕ → ℕ → List ℕ → List ℕ → List ℕ → List ℕ → List ℕ → List ℕ → Written → Type 0
+abbrev pub WriterPromise : List ℕ → List ℕ → ℕ → ℕ → List ℕ → List ℕ → List ℕ → List ℕ → List ℕ → List ℕ → Checkable Written Refusal → Type 0
 WriterPromise sheet input A p table table' work work' out out' r =
     RepliesWriting (handed sheet (writer_of input (A at p) (length table) (length work) (length out))) input (A at p) table table' work work' out out'
-    (told r.answer) r.lines
+    (told r) (lines_in r)

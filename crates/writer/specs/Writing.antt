@@ -1,9 +1,8 @@
 -- What the steps of the writer do, once the question is answered: it goes from pair to pair over the finished table and lays their lines down.
 -- The work slice holds for each cell 0, a link to the pair that called its pair, or twice the number of its line. Assumes nothing.
 use Rattle.std.specs.Prelude.{Bool, true, false, List, [], ◌++◌, ◌⊎◌, ◌≢◌, ◌≡◌, ℕ, ◌+◌, ◌*◌, ◌/◌, ◌%◌, ◌≤◌, ◌<◌, length, get_or, set, take, drop}
-use Rattle.grammar.specs.Refusal.{Checked, refused, accepted}
 use Rattle.grammar.specs.Rule.{Rule}
-use Rattle.schema.specs.Derivation.{Pair, ◌at◌, Result, second, result, stopped, loop, Has}
+use Rattle.schema.specs.Derivation.{Pair, ◌at◌, Result, result, stopped, loop, Has}
 use Rattle.schema.specs.Line.{Line, line_of, line_bytes, lines_bytes}
 use Rattle.schema.specs.Reached.{Reached}
 use Rattle.schema.specs.Table.{cell, cells, held}
@@ -13,9 +12,8 @@ use Rattle.step.specs.Codes.{Settled, result_of}
 use Rattle.lines.specs.Turning.{number_of, link, no_link, Lower, Own, TurnReady}
 use Rattle.writer.specs.Writer.{Visits}
 use Rattle.lines.specs.declared.Stand.{Stand}
-use Rattle.lines.specs.declared.Turn.TheVariants as turn
-use Rattle.writer.specs.declared.Step.{Step}
-use Rattle.writer.specs.declared.Step.TheVariants as step
+use Rattle.std.specs.declared.ops.ControlFlow.{ControlFlow}
+use Rattle.std.specs.declared.ops.ControlFlow.TheVariants.{Continue, Break}
 
 -- ---- A step.
 
@@ -53,9 +51,9 @@ pub record Returns (s W : List ℕ) (x y : Stand) : Type 0 where
   pub lines_are : y.lines ≡ x.lines + 1
 
 -- One step from x.
-abbrev pub Steps : (ℕ → Rule) → List ℕ → List ℕ → List ℕ → List ℕ → List ℕ → List ℕ → Stand → Step → Type 0
-Steps rule s T W out W' out' x (step.On y) = Descends rule s T W out W' out' x y ⊎ (Lays rule s T W out W' out' x × Returns s W x y)
-Steps rule s T W out W' out' x (step.Ended count) =
+abbrev pub Steps : (ℕ → Rule) → List ℕ → List ℕ → List ℕ → List ℕ → List ℕ → List ℕ → Stand → ControlFlow ℕ Stand → Type 0
+Steps rule s T W out W' out' x (Continue y) = Descends rule s T W out W' out' x y ⊎ (Lays rule s T W out W' out' x × Returns s W x y)
+Steps rule s T W out W' out' x (Break count) =
     Lays rule s T W out W' out' x × (number_of (length s) W (pair_at x) ≡ no_link) × (count ≡ x.lines + 1)
 
 -- ---- The walk.
@@ -93,8 +91,7 @@ pub record AskWriteReady (rule : ℕ → Rule) (s : List ℕ) (v A p : ℕ) (T W
   pub out_room : 49 * cells v (length s) ≤ length out
 
 -- The answer is success or failure.
-abbrev pub has_result : Checked Reply → Bool
-has_result (refused number line) = false
-has_result (accepted (reply (result r) z count)) = true
-has_result (accepted (reply (stopped w) z count)) = false
-has_result (accepted (reply loop z count)) = false
+abbrev pub has_result : Reply → Bool
+has_result (reply (result r) z count) = true
+has_result (reply (stopped w) z count) = false
+has_result (reply loop z count) = false

@@ -2,29 +2,27 @@
 #![tactic(auto)]
 
 ghost use Rattle.std.specs.Prelude.{◌≡◌, ◌++◌, ◌+◌, ◌*◌, ◌≤◌, ◌<◌, ltb, length, set, take, drop};
-ghost use Rattle.grammar.specs.Refusal.{Checked};
 ghost use Rattle.grammar.specs.Words.{rule_in};
 ghost use Rattle.schema.specs.Derivation.{◌at◌, Result, second};
 ghost use Rattle.schema.specs.Line.{line_of, line_bytes};
 ghost use Rattle.schema.specs.Table.{cell, held, cells};
 ghost use Rattle.step.specs.Codes.{Code, Settled, result_of};
-ghost use Rattle.finish.specs.Reply.{told};
-ghost use Rattle.writer.specs.Writer.{SaysWriting, WriterPromise};
+ghost use Rattle.finish.specs.Reply.{reply_of, outcome_of};
+ghost use Rattle.memo.specs.Answer.{Answers};
+ghost use Rattle.writer.specs.Writer.{Writes, WriterPromise};
 ghost use Rattle.writer.specs.Writing.{StepReady, Steps, LinesReady, WriteReady, WriteEnds, AskWriteReady, has_result};
 
 use cells::{Caller, Cell, blank, cell_number};
 use finish::Answer;
-use grammar::sheet::{Rules, Sheet};
+use grammar::refusal::Refusal;
+use grammar::sheet::Rules;
 use lines::{Stand, Turn, lay_line, link_down, note_line, turn_at};
-use memo::{ask, too_small};
-use rules::admit;
+use memo::{admit_question, ask};
+use std::ops::ControlFlow;
+use std::ops::ControlFlow::{Break, Continue};
 
 // What a step comes to: the next place, or the count of lines at the end.
-#[derive(Drop)]
-enum Step {
-    On(Stand),
-    Ended(u32),
-}
+type Step = ControlFlow<u32, Stand>;
 
 // What the writer answers: the answer of the question, and the count of lines written.
 #[derive(Drop)]
@@ -50,7 +48,7 @@ fn advance(
     match turn_at(rules, input, variables, table, work, x.variable, x.position) {
         Turn::Down(b, q) => {
             link_down(n, work, x, b, q);
-            Step::On(Stand {
+            Continue(Stand {
                 variable: b,
                 position: q,
                 lines: x.lines,
@@ -60,10 +58,10 @@ fn advance(
             lay_line(n, table, out, x, i, j);
             let link = note_line(n, work, x);
             if link == 1 {
-                return Step::Ended(x.lines + 1);
+                return Break(x.lines + 1);
             }
             let caller = Caller::unpack(link);
-            Step::On(Stand {
+            Continue(Stand {
                 variable: caller.variable,
                 position: caller.position,
                 lines: x.lines + 1,
@@ -93,12 +91,8 @@ fn write_from(
     };
     loop {
         match advance(rules, input, variables, table, work, out, x) {
-            Step::On(next) => {
-                x = next;
-            }
-            Step::Ended(lines) => {
-                return lines;
-            }
+            Continue(next) => x = next,
+            Break(lines) => return lines,
         }
     }
 }
@@ -137,29 +131,24 @@ fn ask_and_write(
     out: &mut [u8],
 ) -> Written
     requires { AskWriteReady (rule_in rules.now) input.now variables variable position table.old work.old out.old }
-    ensures { SaysWriting (rule_in rules.now) variables input.now (variable at position) table.old table.new work.old work.new out.old out.new (told result.answer) result.lines }
+    ensures answers { Answers (rule_in rules.now) variables input.now (variable at position) table.old table.new work.old work.new (reply_of result.answer) }
+    ensures writes { Writes (rule_in rules.now) input.now (variable at position) (outcome_of (reply_of result.answer)) out.old out.new result.lines }
 {
     let answer = ask(rules, input, variables, variable, position, table, work);
-    if !has_result(answer) {
-        return Written { answer, lines: 0 };
+    if has_result(answer) {
+        let lines = write_lines(
+            rules, input, variables, variable, position, table, work, out,
+        );
+        return Written { answer, lines };
     }
-    let lines = write_lines(
-        rules, input, variables, variable, position, table, work, out,
-    );
-    Written { answer, lines }
+    Written { answer, lines: 0 }
 }
 
 // Success or failure.
 fn has_result(answer: Answer) -> bool
-    ensures { result ≡ has_result (told answer) }
+    ensures { result ≡ has_result (reply_of answer) }
 {
-    match answer {
-        Answer::Success(_, _) => true,
-        Answer::Failure(_) => true,
-        Answer::Loop(_, _, _) => false,
-        Answer::Missing(_, _, _) => false,
-        Answer::Refused(_, _) => false,
-    }
+    matches!(answer, Answer::Success(..) | Answer::Failure(_))
 }
 
 // A question about a variable at a position of the input, and its certificate in a lent output.
@@ -171,36 +160,26 @@ pub fn write(
     table: &mut [u32],
     work: &mut [u32],
     out: &mut [u8],
-) -> Written
+) -> Result<Written, Refusal>
     ensures { WriterPromise sheet.now input.now variable position table.old table.new work.old work.new out.old out.new result }
 {
     let mut rules: Rules = [0u32; 256];
-    let read = admit(sheet, input, variable, position, &mut rules);
-    match read {
-        Sheet::Refused(number, line) => refused(number, line),
-        Sheet::Read(grammar) => {
-            let variables = grammar.variables;
-            if too_small(variables, input.len(), table.len(), work.len()) {
-                return refused(10, 0);
-            }
-            if output_too_small(variables, input.len(), out.len()) {
-                return refused(11, 0);
-            }
-            ask_and_write(
-                &rules, input, variables, variable, position, table, work, out,
-            )
-        }
+    let grammar = admit_question(
+        sheet,
+        input,
+        variable,
+        position,
+        table.len(),
+        work.len(),
+        &mut rules,
+    )?;
+    let variables = grammar.variables;
+    if output_too_small(variables, input.len(), out.len()) {
+        return Err(Refusal::Output);
     }
-}
-
-// A refusal writes no line.
-fn refused(number: u32, line: u32) -> Written
-    ensures { (told result.answer ≡ Checked.refused number line) × (result.lines ≡ 0) }
-{
-    Written {
-        answer: Answer::Refused(number, line),
-        lines: 0,
-    }
+    Ok(ask_and_write(
+        &rules, input, variables, variable, position, table, work, out,
+    ))
 }
 
 // Refusal 11: the output has fewer bytes than a line for each cell takes.

@@ -1,39 +1,36 @@
-use Rattle.memo.proofs.Questioned.{in_bounds}
-use Rattle.writer.proofs.WriterQuestioned.{writer_refused, writer_slices, writer_output, write_ready, writer_replies}
-use borrow.Author.Rules.{rules}
+use mathlib.Core.Path.{ap}
+use Rattle.grammar.proofs.HandedOn.{handed_on}
+use Rattle.memo.proofs.Ready.{few_short}
+use Rattle.schema.specs.Derivation.{◌at◌}
+use Rattle.schema.specs.Handed.{question_of}
+use lib.ListN.{length}
+use Rattle.writer.specs.Writer.{told, lines_in}
+use Rattle.writer.proofs.WriterQuestioned.{writer_refused, writer_output, write_ready, writer_replies}
 use Rattle.writer.proofs.write.Goals as goal
-
-pub too_small-requires : goal.too_small-requires
-too_small-requires c =
-    let a = c.args in
-    in_bounds c.admit-read.ensures a.table.now a.work.now c.in-Read.is
-
-pub returns-then-too_small : goal.returns-then-too_small
-returns-then-too_small c =
-    let a = c.args in
-    writer_slices c.admit-read.ensures a.table.now a.work.now a.out.now c.in-Read.is c.too_small.ensures c.if-too_small.true c.refused-then-too_small.ensures.0 c.refused-then-too_small.ensures.1
 
 pub output_too_small-requires : goal.output_too_small-requires
 output_too_small-requires c =
     let a = c.args in
-    in_bounds c.admit-read.ensures a.table.now a.work.now c.in-Read.is
+    few_short a.sheet.now (question_of a.input.now (a.variable at a.position) (length a.table.now) (length a.work.now)) c.admit_question.ensures c.in_ok-grammar.was
 
 pub returns-then-output_too_small : goal.returns-then-output_too_small
 returns-then-output_too_small c =
     let a = c.args in
-    writer_output c.admit-read.ensures a.table.now a.work.now a.out.now c.in-Read.is c.too_small.ensures c.output_too_small.ensures c.if-too_small.false c.if-output_too_small.true c.refused-then-output_too_small.ensures.0 c.refused-then-output_too_small.ensures.1
+    writer_output a.sheet.now a.input.now a.variable a.position a.table.now a.work.now a.out.now c.admit_question.ensures c.in_ok-grammar.was c.output_too_small.ensures c.if-output_too_small.true
 
 pub ask_and_write-requires : goal.ask_and_write-requires
 ask_and_write-requires c =
     let a = c.args in
-    write_ready c.admit-read.ensures a.table.now a.work.now a.out.now c.in-Read.is c.too_small.ensures c.output_too_small.ensures c.if-too_small.false c.if-output_too_small.false
+    write_ready a.sheet.now a.input.now a.variable a.position a.table.now a.work.now a.out.now c.admit_question.ensures c.in_ok-grammar.was c.output_too_small.ensures c.if-output_too_small.false
 
-pub returns-in-Refused : goal.returns-in-Refused
-returns-in-Refused c =
+pub returns-in_err-grammar : goal.returns-in_err-grammar
+returns-in_err-grammar c =
     let a = c.args in
-    writer_refused c.admit-read.ensures a.table.now a.work.now a.out.now c.in-Refused.is c.refused.ensures.0 c.refused.ensures.1
+    let e = handed_on c.from_residual.ensures.1 in
+    writer_refused a.sheet.now a.input.now a.variable a.position a.table.now a.work.now a.out.now c.admit_question.ensures c.in_err-grammar.was (ap told e) (ap lines_in e)
 
-pub returns-else-output_too_small : goal.returns-else-output_too_small
-returns-else-output_too_small c =
+pub returns : goal.returns
+returns c =
     let a = c.args in
-    writer_replies c.admit-read.ensures a.table.now a.work.now a.out.now c.in-Read.is c.too_small.ensures c.output_too_small.ensures c.if-too_small.false c.if-output_too_small.false c.ask_and_write.ensures
+    writer_replies a.sheet.now a.input.now a.variable a.position a.table.now a.work.now a.out.now c.admit_question.ensures c.in_ok-grammar.was c.output_too_small.ensures c.if-output_too_small.false
+    c.ask_and_write.ensures.answers c.ask_and_write.ensures.writes

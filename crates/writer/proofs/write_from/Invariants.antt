@@ -1,12 +1,10 @@
-use mathlib.Core.Path.{◌∙◌}
 use lib.ListN.{length}
-use borrow.Author.Rules.{rules}
 use Rattle.grammar.specs.Words.{rule_in}
 use Rattle.schema.specs.Derivation.{◌at◌}
 use Rattle.schema.specs.Table.{cells}
 use Rattle.writer.specs.Writing.{pair_at}
 use Rattle.writer.proofs.Marked.{to_do}
-use Rattle.writer.proofs.Going.{Going, goes_first, may_step, output_length, goes_on, ends}
+use Rattle.writer.proofs.Going.{Going}
 use Rattle.writer.proofs.write_from.Given as goal
 
 abbrev pub invariant-loop-next : goal.invariant-loop-next
