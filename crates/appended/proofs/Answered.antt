@@ -6,6 +6,8 @@ use Prim.Native.Nat.{ℕ, ◌*◌, ◌≤◌}
 use native.Mathlib.Omega.{arith}
 use lib.ListN.{length, length-append}
 use borrow.Author.Tests.{le-ltb}
+use Rattle.std.specs.Prelude.{Result as Results}
+use Rattle.grammar.specs.declared.refusal.Refusal.{Refusal}
 use Rattle.grammar.specs.Refusal.{Checked, refused, accepted}
 use Rattle.grammar.specs.Sheet.{Grammar, sheet}
 use Rattle.grammar.proofs.Fitting.{within_both}
@@ -35,7 +37,7 @@ pub record Replied (s input : List ℕ) (A p : ℕ) (table table' work work' : L
   pub accepts : handed s (question_of input (A at p) (length table) (length work)) ≡ accepted grammar
   pub answers : Answers grammar.rule grammar.variables input (A at p) table table' work work' a
 
-pub replied : (s input : List ℕ) (A p : ℕ) (table table' work work' : List ℕ) (r : Answer) → QuestionPromise s input A p table table' work work' r
+pub replied : (s input : List ℕ) (A p : ℕ) (table table' work work' : List ℕ) (r : Results Answer Refusal) → QuestionPromise s input A p table table' work work' r
     → (a : Reply) → told r ≡ accepted a → Replied s input A p table table' work work' a
 replied s input A p table table' work work' r promise a e = by_sheet (handed s (question_of input (A at p) (length table) (length work))) refl promise
   where
@@ -58,7 +60,7 @@ record Given (s input : List ℕ) (x : Pair) (o : Outcome) : Type 0 where
   has : Has grammar.rule input x o
 
 -- So it is where a run names an outcome.
-run_given : (s input : List ℕ) (x : Pair) (frames frames' : List ℕ) (budget : ℕ) (r : Ending) → run.Runs s input x frames frames' budget r
+run_given : (s input : List ℕ) (x : Pair) (frames frames' : List ℕ) (budget : ℕ) (r : Results Ending Refusal) → run.Runs s input x frames frames' budget r
     → (o : Outcome) (moves : ℕ) → run.told r ≡ accepted (ran (says o) moves) → Given s input x o
 run_given s input x frames frames' budget r runs o moves e = by_sheet (handed s (asked input x)) refl runs
   where

@@ -7,6 +7,8 @@ use Prim.Native.Nat.{ℕ, ◌≤◌}
 use native.Mathlib.Decide.{ℕ_discrete}
 use native.Mathlib.Omega.{arith}
 use lib.ListN.{length}
+use Rattle.std.specs.Prelude.{Result as Results}
+use Rattle.grammar.specs.declared.refusal.Refusal.{Refusal}
 use Rattle.grammar.specs.Refusal.{accepted}
 use Rattle.grammar.specs.Rule.{Rule}
 use Rattle.grammar.specs.Sheet.{Grammar}
@@ -122,7 +124,7 @@ module _ (rule : ℕ → Rule) (s : List ℕ) where
 
 -- ---- Of any result that meets the contract.
 
-module _ (s input : List ℕ) (A p : ℕ) (table table' work work' : List ℕ) (r : Answer) (promise : QuestionPromise s input A p table table' work work' r)
+module _ (s input : List ℕ) (A p : ℕ) (table table' work work' : List ℕ) (r : Results Answer Refusal) (promise : QuestionPromise s input A p table table' work work' r)
     (g : Grammar) (accepts : handed s (question_of input (A at p) (length table) (length work)) ≡ accepted g) (a : Reply) (says : told r ≡ accepted a) where
   abbrev asked : Handed
   asked = question_of input (A at p) (length table) (length work)

@@ -1,4 +1,6 @@
 -- Document 02, orders 3 and 11, "Text added at the end": what the calls say again, of any results that meet their contracts. Assumes nothing.
+use Rattle.std.specs.Prelude.{Result as Results}
+use Rattle.grammar.specs.declared.refusal.Refusal.{Refusal}
 use Rattle.std.specs.Prelude.{List, ◌++◌, ◌≡◌, ℕ, ◌*◌, ◌≤◌, length}
 use Rattle.grammar.specs.Refusal.{accepted}
 use Rattle.grammar.specs.Sheet.{Grammar}
@@ -22,13 +24,13 @@ pub record AnsweredAgain (sheet input added : List ℕ) (A p : ℕ) : Type 0 whe
       → handed sheet (question_of (input ++ added) (A at p) table₂ work₂) ≡ accepted g
   -- Where the engine replies to both, and the first outcome is covered, it says the same again. The count of decided cells is not promised, nor is the
   -- table: the number of a pair's cell changes with n.
-  pub question_repeats : (table table' work work' : List ℕ) (r : Answer) → QuestionPromise sheet input A p table table' work work' r
-      → (table₂ table₂' work₂ work₂' : List ℕ) (r₂ : Answer) → QuestionPromise sheet (input ++ added) A p table₂ table₂' work₂ work₂' r₂
+  pub question_repeats : (table table' work work' : List ℕ) (r : Results Answer Refusal) → QuestionPromise sheet input A p table table' work work' r
+      → (table₂ table₂' work₂ work₂' : List ℕ) (r₂ : Results Answer Refusal) → QuestionPromise sheet (input ++ added) A p table₂ table₂' work₂ work₂' r₂
       → (g : Grammar) → handed sheet (question_of input (A at p) (length table) (length work)) ≡ accepted g
       → (a b : Reply) → told r ≡ accepted a → told r₂ ≡ accepted b → Lasting g.rule input (A at p) (outcome_of a) → SaysSame a b
   -- What the machine names on the input, if it is covered, the engine answers on the longer one.
-  pub run_repeats : (frames frames' : List ℕ) (budget : ℕ) (r : Ending) → run.Runs sheet input (A at p) frames frames' budget r
-      → (table table' work work' : List ℕ) (r₂ : Answer) → QuestionPromise sheet (input ++ added) A p table table' work work' r₂
+  pub run_repeats : (frames frames' : List ℕ) (budget : ℕ) (r : Results Ending Refusal) → run.Runs sheet input (A at p) frames frames' budget r
+      → (table table' work work' : List ℕ) (r₂ : Results Answer Refusal) → QuestionPromise sheet (input ++ added) A p table table' work work' r₂
       → (g : Grammar) → handed sheet (asked input (A at p)) ≡ accepted g
       → (o : Outcome) (moves : ℕ) (b : Reply) → run.told r ≡ accepted (ran (says o) moves) → told r₂ ≡ accepted b → Lasting g.rule input (A at p) o
       → outcome_of b ≡ o

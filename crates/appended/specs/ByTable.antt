@@ -1,4 +1,6 @@
 -- Document 02, order 11: whether an outcome comes again is read off the table that the question left. Assumes nothing.
+use Rattle.std.specs.Prelude.{Result as Results}
+use Rattle.grammar.specs.declared.refusal.Refusal.{Refusal}
 use Rattle.std.specs.Prelude.{List, ◌++◌, ◌↔◌, ◌≡◌, ℕ, ◌≤◌, length}
 use Rattle.grammar.specs.Refusal.{accepted}
 use Rattle.grammar.specs.Sheet.{Grammar}
@@ -20,5 +22,5 @@ pub record ByTable (sheet input : List ℕ) (A p : ℕ) (g : Grammar) (a : Reply
   -- Success and failure: exactly if their own cell did not.
   pub by_own_cell : (t : Result) → outcome_of a ≡ result t → Lasting g.rule input (A at p) (outcome_of a) ↔ (reach (length input) table (A at p) ≤ length input)
   -- If no cell did, the question says the same of the input with any bytes appended.
-  pub repeats : NoCellPast g.variables (length input) table → (added table₂ table₂' work₂ work₂' : List ℕ) (r₂ : Answer)
+  pub repeats : NoCellPast g.variables (length input) table → (added table₂ table₂' work₂ work₂' : List ℕ) (r₂ : Results Answer Refusal)
       → QuestionPromise sheet (input ++ added) A p table₂ table₂' work₂ work₂' r₂ → (b : Reply) → told r₂ ≡ accepted b → SaysSame a b

@@ -7,6 +7,8 @@ use Prim.Native.Nat.{ℕ, ◌+◌, ◌*◌, ◌≤◌, ◌<◌}
 use native.Mathlib.Omega.{arith}
 use lib.Dec.{eqb, ltb}
 use lib.ListN.{length, set, length-set}
+use Rattle.std.specs.Prelude.{Result as Results}
+use Rattle.grammar.specs.declared.refusal.Refusal.{Refusal}
 use Rattle.grammar.specs.Printing.{text}
 use Rattle.grammar.specs.Refusal.{accepted, checked, from}
 use Rattle.grammar.specs.Sheet.{Grammar, grammar_of, condition}
@@ -47,11 +49,11 @@ unfolding call_condition handed_condition handed
 by_length s input other x table work e = ap (λ (n : ℕ). checked (from 6 (condition_at (grammar_of s) x table work n) (condition s)) (handed_order s) (grammar_of s)) e
 
 -- The outcome and the named pair are the case's, and demand 3 holds.
-pub corrected_case : (m : Case) → Memᴰ m cases → (c b : ℕ) → c < length m.input → (table table' work work' : List ℕ) (r : Answer)
+pub corrected_case : (m : Case) → Memᴰ m cases → (c b : ℕ) → c < length m.input → (table table' work work' : List ℕ) (r : Results Answer Refusal)
     → 2 * cells (grammar_of (text m.lines)).variables (length m.input) ≤ length table
     → cells (grammar_of (text m.lines)).variables (length m.input) ≤ length work
     → QuestionPromise (text m.lines) (set m.input c b) 1 0 table table' work work' r
-    → (after work₂ work₂' : List ℕ) (q : Answer) → cells (grammar_of (text m.lines)).variables (length m.input) ≤ length work₂
+    → (after work₂ work₂' : List ℕ) (q : Results Answer Refusal) → cells (grammar_of (text m.lines)).variables (length m.input) ≤ length work₂
     → CorrectionPromise (text m.lines) (set m.input c b) m.input 1 0 c table' after work₂ work₂' q
     → (count : ℕ) × (told q ≡ accepted (reply m.outcome m.named count))
     × Demand3Kept (text m.lines) m.input (1 at 0) (grammar_of (text m.lines)) (retained (c + 1) (length m.input) table') after (reply m.outcome m.named count)
@@ -83,9 +85,9 @@ corrected_case m member c b below table table' work work' r room work_room asks 
     )
 
 -- `-7.` read with sheet H, and its 7 corrected to a 6, which makes it case a: success ending 3.
-pub corrected_a : (table table' work work' : List ℕ) (r : Answer) → 48 ≤ length table → 24 ≤ length work
+pub corrected_a : (table table' work work' : List ℕ) (r : Results Answer Refusal) → 48 ≤ length table → 24 ≤ length work
     → QuestionPromise (text sheet_h) (45 ∷ 55 ∷ 46 ∷ []) 1 0 table table' work work' r
-    → (after work₂ work₂' : List ℕ) (q : Answer) → 24 ≤ length work₂ → CorrectionPromise (text sheet_h) (45 ∷ 55 ∷ 46 ∷ []) (45 ∷ 54 ∷ 46 ∷ []) 1 0 1 table' after work₂ work₂' q
+    → (after work₂ work₂' : List ℕ) (q : Results Answer Refusal) → 24 ≤ length work₂ → CorrectionPromise (text sheet_h) (45 ∷ 55 ∷ 46 ∷ []) (45 ∷ 54 ∷ 46 ∷ []) 1 0 1 table' after work₂ work₂' q
     → (count : ℕ) × (told q ≡ accepted (reply (result (success 3)) (0 at 0) count))
 unfolding cases
 corrected_a table table' work work' r room work_room asks after work₂ work₂' q work-room₂ corrects =

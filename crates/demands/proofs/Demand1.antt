@@ -7,6 +7,9 @@ use mathlib.Core.Path.{◌≡◌, refl, sym, ap, ◌∙◌, subst}
 use Prim.Native.Nat.{ℕ}
 use native.Mathlib.Omega.{arith}
 use lib.ListN.{length}
+use Rattle.std.specs.Prelude.{Result as Results, Ok, Err}
+use Rattle.grammar.specs.declared.refusal.Refusal.{Refusal}
+use Rattle.checker.specs.declared.Rejection.{Rejection}
 use Rattle.grammar.specs.Refusal.{Checked, refused, accepted}
 use Rattle.grammar.specs.Sheet.{Grammar}
 use Rattle.grammar.specs.Order.{FirstHolds}
@@ -18,7 +21,7 @@ use Rattle.schema.proofs.Following.{Follows}
 use Rattle.finish.specs.Reply.{Reply, reply}
 use Rattle.verdict.specs.Verdict.{numbers, judged, Judges, VerdictPromise}
 use Rattle.verdict.specs.declared.Judgement.{Judgement}
-use Rattle.verdict.specs.declared.Judgement.TheVariants.{Recognised, Partial, Failure, Loop, Missing, Refused}
+use Rattle.verdict.specs.declared.Judgement.TheVariants.{Recognised, Partial, Failure, Loop, Missing}
 use Rattle.backtrack.specs.Run as run
 use Rattle.backtrack.specs.declared.Ending.{Ending}
 use Rattle.checker.specs.Checker as checker
@@ -29,7 +32,7 @@ use Rattle.demands.specs.Demands.{verdict_told}
 
 -- ---- The machine.
 
-pub run_follows : (s input : List ℕ) (x : Pair) (frames frames' : List ℕ) (budget : ℕ) (r : Ending) → run.Runs s input x frames frames' budget r
+pub run_follows : (s input : List ℕ) (x : Pair) (frames frames' : List ℕ) (budget : ℕ) (r : Results Ending Refusal) → run.Runs s input x frames frames' budget r
     → Follows Ran s (asked input x) (run.told r) (frames' ≡ frames)
 run_follows s input x frames frames' budget r promise = record {
   refused_as = λ y l e. given (refused y l) e;
@@ -44,23 +47,19 @@ run_follows s input x frames frames' budget r promise = record {
 head_same : {a b : ℕ} {xs ys : List ℕ} → (a ∷ xs) ≡ (b ∷ ys) → a ≡ b
 head_same e = cc
 
-told_refused : (r : Judgement) (n x l : ℕ) → numbers r ≡ judged n (refused x l) → verdict_told r ≡ refused x l
-told_refused (Refused number line) n x l e = cc
-told_refused (Recognised q count) n x l e = let h = head_same e in absurd (omega arith)
-told_refused (Partial q count) n x l e = let h = head_same e in absurd (omega arith)
-told_refused (Failure count) n x l e = let h = head_same e in absurd (omega arith)
-told_refused (Loop A p count) n x l e = let h = head_same e in absurd (omega arith)
-told_refused (Missing A p count) n x l e = let h = head_same e in absurd (omega arith)
+told_refused : (r : Results Judgement Refusal) (n x l : ℕ) → numbers r ≡ judged n (refused x l) → verdict_told r ≡ refused x l
+told_refused (Err f) n x l e = cc
+told_refused (Ok (Recognised q count)) n x l e = let h = head_same e in absurd (omega arith)
+told_refused (Ok (Partial q count)) n x l e = let h = head_same e in absurd (omega arith)
+told_refused (Ok (Failure count)) n x l e = let h = head_same e in absurd (omega arith)
+told_refused (Ok (Loop A p count)) n x l e = let h = head_same e in absurd (omega arith)
+told_refused (Ok (Missing A p count)) n x l e = let h = head_same e in absurd (omega arith)
 
-told_accepted : (r : Judgement) (n : ℕ) (a : Reply) → numbers r ≡ judged n (accepted a) → (b : List ℕ) × (verdict_told r ≡ accepted b)
-told_accepted (Refused number line) n (reply o (A at p) count) e = let h = head_same e in let m = verdict_code_most n o in absurd (omega arith)
-told_accepted (Recognised q count) n a e = (numbers (Recognised q count), refl)
-told_accepted (Partial q count) n a e = (numbers (Partial q count), refl)
-told_accepted (Failure count) n a e = (numbers (Failure count), refl)
-told_accepted (Loop A p count) n a e = (numbers (Loop A p count), refl)
-told_accepted (Missing A p count) n a e = (numbers (Missing A p count), refl)
+told_accepted : (r : Results Judgement Refusal) (n : ℕ) (a : Reply) → numbers r ≡ judged n (accepted a) → (b : List ℕ) × (verdict_told r ≡ accepted b)
+told_accepted (Err f) n (reply o (A at p) count) e = let h = head_same e in let m = verdict_code_most n o in absurd (omega arith)
+told_accepted (Ok j) n a e = (numbers (Ok j), refl)
 
-pub verdict_follows : (s input table table' work work' : List ℕ) (r : Judgement) → VerdictPromise s input table table' work work' r
+pub verdict_follows : (s input table table' work work' : List ℕ) (r : Results Judgement Refusal) → VerdictPromise s input table table' work work' r
     → Follows (List ℕ) s (verdict_of input (length table) (length work)) (verdict_told r) ((table' ≡ table) × (work' ≡ work))
 verdict_follows s input table table' work work' r promise = record {
   refused_as = λ x l e. let k = given (refused x l) e in (told_refused r (length input) x l k.0, (k.1, k.2));
@@ -72,7 +71,7 @@ verdict_follows s input table table' work work' r promise = record {
 
 -- ---- The checker, which is lent nothing.
 
-pub check_refused : (s input : List ℕ) (x : Pair) (reading : List ℕ) (r : Claim) → Checks s input x reading r
+pub check_refused : (s input : List ℕ) (x : Pair) (reading : List ℕ) (r : Results Claim Rejection) → Checks s input x reading r
     → (y l : ℕ) → (checker.told r ≡ refused y l) ↔ FirstHolds (check_condition s input x reading) (check_order s reading) y l
 check_refused s input x reading r promise y l =
     let c = check_refused_exactly s input x reading y l in

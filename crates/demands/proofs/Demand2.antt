@@ -6,6 +6,9 @@ use mathlib.Core.Path.{◌≡◌, refl, sym, ap, ◌∙◌, subst}
 use Prim.Native.Nat.{ℕ, ◌*◌, ◌-◌, ◌/◌, ◌≤◌}
 use lib.ListN.{length, take, drop}
 use lib.Seq.{take-append_seam}
+use Rattle.std.specs.Prelude.{Result as Results}
+use Rattle.grammar.specs.declared.refusal.Refusal.{Refusal}
+use Rattle.checker.specs.declared.Rejection.{Rejection}
 use Rattle.grammar.specs.Refusal.{Checked, accepted}
 use Rattle.grammar.specs.Sheet.{Grammar}
 use Rattle.grammar.proofs.Accepted.{grammar_in_range}
@@ -40,7 +43,7 @@ use Rattle.demands.proofs.Passing.{visit_proper}
 -- ---- "Success and failure come where it derives them and nowhere else."
 
 -- What the machine names.
-pub machine_derived : (s input : List ℕ) (x : Pair) (frames frames' : List ℕ) (budget : ℕ) (r : Ending) → run.Runs s input x frames frames' budget r
+pub machine_derived : (s input : List ℕ) (x : Pair) (frames frames' : List ℕ) (budget : ℕ) (r : Results Ending Refusal) → run.Runs s input x frames frames' budget r
     → (g : Grammar) → handed s (asked input x) ≡ accepted g → (o : Outcome) (moves : ℕ) → run.told r ≡ accepted (ran (says o) moves) → Has g.rule input x o
 machine_derived s input x frames frames' budget r runs g e o moves names = machine.call_derived s input x frames frames' budget r runs g e o (moves, names)
 
@@ -49,7 +52,7 @@ claimed_outcome_law (A at p) (success q) = refl
 claimed_outcome_law (A at p) failure = refl
 
 -- What a passed reading claims.
-pub claim_derived : (s input : List ℕ) (x : Pair) (reading : List ℕ) (r : Claim) → Checks s input x reading r
+pub claim_derived : (s input : List ℕ) (x : Pair) (reading : List ℕ) (r : Results Claim Rejection) → Checks s input x reading r
     → (g : Grammar) → handed s (asked input x) ≡ accepted g → (c : Claimed) → passes r ≡ accepted c → Has g.rule input x (claimed_outcome c)
 claim_derived s input x reading r checks g e c q =
     let t = checker.call_claims s input x reading r checks g e c q in
@@ -59,7 +62,7 @@ claim_derived s input x reading r checks g e c q =
     subst (Has g.rule input x) (sym (ap claimed_outcome same ∙ claimed_outcome_law x t.0)) h
 
 -- The outcome of which a verdict gives the numbers is the one that the start variable has at 0.
-pub verdict_derived : (s input table table' work work' : List ℕ) (r : Judgement) → VerdictPromise s input table table' work work' r
+pub verdict_derived : (s input table table' work work' : List ℕ) (r : Results Judgement Refusal) → VerdictPromise s input table table' work work' r
     → (g : Grammar) → handed s (verdict_of input (length table) (length work)) ≡ accepted g
     → (a : Reply) × (numbers r ≡ judged (length input) (accepted a)) × ((o : Outcome) → (outcome_of a ≡ o) ↔ Has g.rule input (g.start at 0) o)
 verdict_derived s input table table' work work' r promise g e =
@@ -67,7 +70,7 @@ verdict_derived s input table table' work work' r promise g e =
     (v.0, v.1, λ o. ((v.3 o).1, (v.3 o).0))
 
 -- The writer's outcome is the one that the pair has.
-pub written_derived : (s input : List ℕ) (A p : ℕ) (table table' work work' out out' : List ℕ) (r : Written) → WriterPromise s input A p table table' work work' out out' r
+pub written_derived : (s input : List ℕ) (A p : ℕ) (table table' work work' out out' : List ℕ) (r : Results Written Refusal) → WriterPromise s input A p table table' work work' out out' r
     → (g : Grammar) → handed s (writer_of input (A at p) (length table) (length work) (length out)) ≡ accepted g
     → (a : Reply) × (told r.answer ≡ accepted a) × ((o : Outcome) → (outcome_of a ≡ o) ↔ Has g.rule input (A at p) o)
 written_derived s input A p table table' work work' out out' r promise g accepts =
@@ -82,13 +85,13 @@ written_derived s input A p table table' work work' out out' r promise g accepts
 
 -- "The backtracking machine gives the outcome of a k-step derivation exactly when it is lent at least 2k - 1 moves and as many frames as the
 -- derivation is high."
-pub machine_exactly : (s input : List ℕ) (x : Pair) (frames frames' : List ℕ) (budget : ℕ) (r : Ending) → run.Runs s input x frames frames' budget r
+pub machine_exactly : (s input : List ℕ) (x : Pair) (frames frames' : List ℕ) (budget : ℕ) (r : Results Ending Refusal) → run.Runs s input x frames frames' budget r
     → (g : Grammar) → handed s (asked input x) ≡ accepted g → {t : Result} {k h : ℕ} → Derives g.rule input x t k h
     → ((moves : ℕ) × (run.told r ≡ accepted (ran (says (result t)) moves))) ↔ ((2 * k - 1 ≤ budget) × (h ≤ length frames / 3))
 machine_exactly s input x frames frames' budget r runs g e d = (machine.call_exactly s input x frames frames' budget r runs g e d).1
 
 -- "The checker passes a reading exactly when each line follows from a rule and earlier lines and the last is the pair in question".
-pub checker_exactly : (s input : List ℕ) (x : Pair) (reading : List ℕ) (r : Claim) → Checks s input x reading r
+pub checker_exactly : (s input : List ℕ) (x : Pair) (reading : List ℕ) (r : Results Claim Rejection) → Checks s input x reading r
     → (g : Grammar) → handed s (asked input x) ≡ accepted g → (t : Result) → Claims r x t ↔ Proper g input reading x t
 checker_exactly s input x reading r checks g e t = checker.call_exactly s input x reading r checks g e t
 
@@ -96,7 +99,7 @@ checker_exactly s input x reading r checks g e t = checker.call_exactly s input 
 
 -- The lines of a pair that has a result, handed to the checker, pass, with this result.
 pub lines_pass : (s input : List ℕ) (A p : ℕ) (g : Grammar) → handed s (asked input (A at p)) ≡ accepted g → (t : Result) → Has g.rule input (A at p) (result t)
-    → (ls : List Line) → Visits g.rule input [] (A at p) ls → (c : Claim) → Checks s input (A at p) (lines_bytes ls) c → Claims c (A at p) t
+    → (ls : List Line) → Visits g.rule input [] (A at p) ls → (c : Results Claim Rejection) → Checks s input (A at p) (lines_bytes ls) c → Claims c (A at p) t
 lines_pass s input A p g accepts t has ls visits c checks =
     let sheet = handed_sheet s (asked input (A at p)) g accepts in
     let few = (grammar_in_range s g sheet).1 in
@@ -104,7 +107,7 @@ lines_pass s input A p g accepts t has ls visits c checks =
     let within = handed_pair s (asked input (A at p)) g accepts (A at p) refl in
     (checker_exactly s input (A at p) (lines_bytes ls) c checks g accepts t).1 (visit_proper g input (sheet_closed s g sheet) few short ls within has visits)
 
-module _ (s input : List ℕ) (A p : ℕ) (table table' work work' out out' : List ℕ) (r : Written)
+module _ (s input : List ℕ) (A p : ℕ) (table table' work work' out out' : List ℕ) (r : Results Written Refusal)
     (promise : WriterPromise s input A p table table' work work' out out' r)
     (g : Grammar) (accepts : handed s (writer_of input (A at p) (length table) (length work) (length out)) ≡ accepted g)
     (a : Reply) (answers : told r.answer ≡ accepted a) (t : Result) (succeeds : outcome_of a ≡ result t) where
@@ -139,7 +142,7 @@ module _ (s input : List ℕ) (A p : ℕ) (table table' work work' out out' : Li
       ap (take (49 * r.lines)) writes.written ∙ ap (λ (k : ℕ). take k (lines_bytes ls ++ drop (49 * length ls) out)) e ∙ take-append_seam (lines_bytes ls) (drop (49 * length ls) out)
 
   -- What was written, handed to the checker for the same question, passes, with the same outcome and end.
-  pub written_passes : (c : Claim) → Checks s input (A at p) (take (49 * r.lines) out') c → Claims c (A at p) t
+  pub written_passes : (c : Results Claim Rejection) → Checks s input (A at p) (take (49 * r.lines) out') c → Claims c (A at p) t
   written_passes c checks =
       lines_pass s input A p g (question_accepted s call g A p accepts refl) t has writes.lines writes.ordered c
       (subst (λ (bytes : List ℕ). Checks s input (A at p) bytes c) reading_is checks)

@@ -4,6 +4,8 @@ use mathlib.Core.Logic.{◌⊎◌, ◌↔◌}
 use mathlib.Core.Path.{◌≡◌, refl, ap, ◌∙◌, subst}
 use Prim.Native.Nat.{ℕ, ◌*◌, ◌≤◌}
 use lib.ListN.{length}
+use Rattle.std.specs.Prelude.{Result as Results}
+use Rattle.grammar.specs.declared.refusal.Refusal.{Refusal}
 use Rattle.grammar.specs.Printing.{text}
 use Rattle.grammar.specs.Refusal.{accepted}
 use Rattle.grammar.specs.Sheet.{Grammar, grammar_of}
@@ -43,7 +45,7 @@ module _ (s input : List ℕ) (x : Pair) (g : Grammar) (plain : handed s (asked 
 
 -- ---- Of a question.
 
-module _ (s input : List ℕ) (A p : ℕ) (table work table' work' : List ℕ) (answer : Answer) (promise : QuestionPromise s input A p table table' work work' answer)
+module _ (s input : List ℕ) (A p : ℕ) (table work table' work' : List ℕ) (answer : Results Answer Refusal) (promise : QuestionPromise s input A p table table' work work' answer)
     (g : Grammar) (accepts : handed s (question_of input (A at p) (length table) (length work)) ≡ accepted g) where
   plain : handed s (asked input (A at p)) ≡ accepted g
   plain = question_accepted s (question_of input (A at p) (length table) (length work)) g A p accepts refl
@@ -77,13 +79,13 @@ module _ (s input : List ℕ) (A p : ℕ) (table work table' work' : List ℕ) (
 
   -- Where the engine answers loop, the machine says spent or no frame.
   pub machine_on_loop : (a : Reply) → told answer ≡ accepted a → outcome_of a ≡ loop
-      → (frames frames' : List ℕ) (budget : ℕ) (r : Ending) → run.Runs s input (A at p) frames frames' budget r
+      → (frames frames' : List ℕ) (budget : ℕ) (r : Results Ending Refusal) → run.Runs s input (A at p) frames frames' budget r
       → (moves : ℕ) × ((run.told r ≡ accepted (ran spent moves)) ⊎ (run.told r ≡ accepted (ran no_frame moves)))
   machine_on_loop a e l frames frames' budget r runs =
       machine.call_on_loop s input (A at p) frames frames' budget r runs g plain (((demand_3_of a e).demand.outcome_exactly loop).0 l)
 
 -- Each marked case, with any table of at least V times (n + 1) cells, two numbers each, and any work slice of as many numbers: it is answered as document 01 says, and demand 3 holds.
-pub demand_3_case : (c : Case) → Memᴰ c cases → (table table' work work' : List ℕ) (r : Answer)
+pub demand_3_case : (c : Case) → Memᴰ c cases → (table table' work work' : List ℕ) (r : Results Answer Refusal)
     → 2 * cells (grammar_of (text c.lines)).variables (length c.input) ≤ length table
     → cells (grammar_of (text c.lines)).variables (length c.input) ≤ length work
     → QuestionPromise (text c.lines) c.input 1 0 table table' work work' r
@@ -97,7 +99,7 @@ demand_3_case c m table table' work work' r e f promise =
     )
 
 -- Case a, the sign rule of sheet H: V is 6 and n is 3.
-pub demand_3_a : (table table' work work' : List ℕ) (r : Answer) → 48 ≤ length table → 24 ≤ length work
+pub demand_3_a : (table table' work work' : List ℕ) (r : Results Answer Refusal) → 48 ≤ length table → 24 ≤ length work
     → QuestionPromise (text sheet_h) (45 ∷ 54 ∷ 46 ∷ []) 1 0 table table' work work' r
     → (told r ≡ accepted (reply (result (success 3)) (0 at 0) 5))
     × Demand3Question (text sheet_h) (45 ∷ 54 ∷ 46 ∷ []) (1 at 0) (grammar_of (text sheet_h)) table' (reply (result (success 3)) (0 at 0) 5)
@@ -106,7 +108,7 @@ demand_3_a table table' work work' r e f promise =
     demand_3_case _ (Memᴰ.head refl) table table' work work' r (rw cells_a e) (rw cells_a f) promise
 
 -- Case g, a rule that comes back to itself at the same place: V is 1 and n is 0.
-pub demand_3_g : (table table' work work' : List ℕ) (r : Answer) → 2 ≤ length table → 1 ≤ length work
+pub demand_3_g : (table table' work work' : List ℕ) (r : Results Answer Refusal) → 2 ≤ length table → 1 ≤ length work
     → QuestionPromise (text (header 1 ∷ (1 ∷ 4 ∷ 1 ∷ 1 ∷ 1 ∷ []) ∷ [])) [] 1 0 table table' work work' r
     → (told r ≡ accepted (reply loop (1 at 0) 1))
     × Demand3Question (text (header 1 ∷ (1 ∷ 4 ∷ 1 ∷ 1 ∷ 1 ∷ []) ∷ [])) [] (1 at 0) (grammar_of (text (header 1 ∷ (1 ∷ 4 ∷ 1 ∷ 1 ∷ 1 ∷ []) ∷ []))) table' (reply loop (1 at 0) 1)

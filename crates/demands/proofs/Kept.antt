@@ -6,6 +6,8 @@ use mathlib.Core.Logic.{◌↔◌}
 use mathlib.Core.Path.{◌≡◌, refl, ap, ◌∙◌, subst}
 use Prim.Native.Nat.{ℕ, ◌+◌, ◌*◌, ◌≤◌, ◌<◌}
 use lib.ListN.{length}
+use Rattle.std.specs.Prelude.{Result as Results, Option as Maybe}
+use Rattle.grammar.specs.declared.refusal.Refusal.{Refusal}
 use Rattle.grammar.specs.Printing.{text}
 use Rattle.grammar.specs.Refusal.{Checked, refused, accepted}
 use Rattle.grammar.specs.Sheet.{Grammar, grammar_of}
@@ -27,7 +29,6 @@ use Rattle.verdict.specs.Verdict.{numbers, Judges, VerdictPromise}
 use Rattle.verdict.specs.declared.Judgement.{Judgement}
 use Rattle.opening.specs.Opening as opening
 use Rattle.opening.specs.Opening.{Finds, OpeningPromise}
-use Rattle.opening.specs.declared.Prefix.{Prefix}
 use Rattle.writer.specs.Writer.{RepliesWriting, WriterPromise}
 use Rattle.writer.specs.declared.Written.{Written}
 use Rattle.kept.specs.Differs.{differs_elsewhere}
@@ -61,7 +62,7 @@ demanded_kept s input A p tables works g accepts k =
 
 -- ---- The correction.
 
-module _ (s old input : List ℕ) (A p c : ℕ) (table work table' work' : List ℕ) (r : Answer) (promise : CorrectionPromise s old input A p c table table' work work' r) where
+module _ (s old input : List ℕ) (A p c : ℕ) (table work table' work' : List ℕ) (r : Results Answer Refusal) (promise : CorrectionPromise s old input A p c table table' work work' r) where
   -- Demand 1: refused with a number exactly under its condition, and then both slices are as they were.
   pub demand_1_correct : (x l : ℕ) → ((told r ≡ refused x l) ↔ CorrectionRefuses s old input (A at p) c table (length work) x l)
       × (told r ≡ refused x l → (table' ≡ table) × (work' ≡ work))
@@ -79,7 +80,7 @@ module _ (s old input : List ℕ) (A p c : ℕ) (table work table' work' : List 
 
 -- ---- The further question.
 
-module _ (s input : List ℕ) (A p : ℕ) (table work table' work' : List ℕ) (r : Answer) (promise : FurtherPromise s input A p table table' work work' r) where
+module _ (s input : List ℕ) (A p : ℕ) (table work table' work' : List ℕ) (r : Results Answer Refusal) (promise : FurtherPromise s input A p table table' work work' r) where
   -- Demand 1.
   pub demand_1_further : (x l : ℕ) → ((told r ≡ refused x l) ↔ FurtherRefuses s input (A at p) table (length work) x l)
       × (told r ≡ refused x l → (table' ≡ table) × (work' ≡ work))
@@ -94,18 +95,18 @@ module _ (s input : List ℕ) (A p : ℕ) (table work table' work' : List ℕ) (
 
 -- ---- Kept tables that other calls leave than question, correction and further question: each of these asks a question.
 
-pub verdict_kept : (s input table table' work work' : List ℕ) (r : Judgement) → VerdictPromise s input table table' work work' r
+pub verdict_kept : (s input table table' work work' : List ℕ) (r : Results Judgement Refusal) → VerdictPromise s input table table' work work' r
     → (g : Grammar) → handed s (verdict_of input (length table) (length work)) ≡ accepted g → KeptTable g.rule g.variables input table'
 verdict_kept s input table table' work work' r promise g e =
     answers_kept (start_within s g (handed_sheet s _ g e)) (subst (λ (o : Checked Grammar). Judges o input table table' work work' (numbers r)) e promise).2.2
 
-pub writer_kept : (s input : List ℕ) (A p : ℕ) (table table' work work' out out' : List ℕ) (r : Written) → WriterPromise s input A p table table' work work' out out' r
+pub writer_kept : (s input : List ℕ) (A p : ℕ) (table table' work work' out out' : List ℕ) (r : Results Written Refusal) → WriterPromise s input A p table table' work work' out out' r
     → (g : Grammar) → handed s (writer_of input (A at p) (length table) (length work) (length out)) ≡ accepted g → KeptTable g.rule g.variables input table'
 writer_kept s input A p table table' work work' out out' r promise g e =
     answers_kept (handed_pair s _ g e (A at p) refl)
     (subst (λ (o : Checked Grammar). RepliesWriting o input (A at p) table table' work work' out out' (told r.answer) r.lines) e promise).2
 
-pub opening_kept : (s input table table' work work' : List ℕ) (r : Prefix) → OpeningPromise s input table table' work work' r
+pub opening_kept : (s input table table' work work' : List ℕ) (r : Results (Maybe ℕ) Refusal) → OpeningPromise s input table table' work work' r
     → (g : Grammar) → handed s (verdict_of input (length table) (length work)) ≡ accepted g → KeptTable g.rule g.variables input table'
 opening_kept s input table table' work work' r promise g e =
     asked (start_within s g (handed_sheet s _ g e)) (subst (λ (o : Checked Grammar). Finds o input table table' work work' (opening.told r)) e promise).2.leaves
@@ -124,7 +125,7 @@ case_replied c m k =
 
 -- and as a further question over a blank one with the same count.
 
-pub further_case : (c : Case) → Memᴰ c cases → (table table' work work' : List ℕ) (r : Answer)
+pub further_case : (c : Case) → Memᴰ c cases → (table table' work work' : List ℕ) (r : Results Answer Refusal)
     → 2 * cells (grammar_of (text c.lines)).variables (length c.input) ≤ length table
     → cells (grammar_of (text c.lines)).variables (length c.input) ≤ length work
     → Blank (grammar_of (text c.lines)).variables (length c.input) table

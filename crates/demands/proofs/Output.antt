@@ -9,6 +9,8 @@ use native.Mathlib.Omega.{arith}
 use lib.ListN.{length, take, drop, length-append}
 use lib.Seq.{take_at, drop_at}
 use borrow.Author.Tests.{lt-ltb, le-ltb}
+use Rattle.std.specs.Prelude.{Result as Results}
+use Rattle.checker.specs.declared.Rejection.{Rejection}
 use Rattle.columns.specs.Column.{column, row, field, fields, cons_to}
 use Rattle.columns.proofs.Rows.{row_length, field_read, row_read}
 use Rattle.grammar.specs.Refusal.{Checked, refused, accepted}
@@ -124,7 +126,7 @@ module _ (s input out out' : List ℕ) (r : ℕ) (promise : OutputPromise s inpu
           ap (λ (o : List ℕ). take (r - 33) (drop 33 o)) whole ∙ ap (take (r - 33)) (drop_at line (reading ++ behind) 33 size) ∙ take_at reading behind (r - 33) rest
 
       -- What stands behind the first line, where the start variable has a result at 0, passes, with this result.
-      pub reading_passes : (c : Claim) → Checks s input (g.start at 0) (take (r - 33) (drop 33 out')) c → Claims c (g.start at 0) t
+      pub reading_passes : (c : Results Claim Rejection) → Checks s input (g.start at 0) (take (r - 33) (drop 33 out')) c → Claims c (g.start at 0) t
       reading_passes c checks =
           let p = printing (accepted g) accepts in
           let same : p.outcome ≡ result t = has_one g.rule input (g.start at 0) p.outcome (result t) p.has has in

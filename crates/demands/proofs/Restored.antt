@@ -5,6 +5,8 @@ use mathlib.Core.List.{List, Memᴰ}
 use mathlib.Core.Path.{◌≡◌, sym, subst}
 use Prim.Native.Nat.{ℕ, ◌+◌, ◌*◌, ◌≤◌, ◌<◌}
 use lib.ListN.{length}
+use Rattle.std.specs.Prelude.{Result as Results}
+use Rattle.grammar.specs.declared.refusal.Refusal.{Refusal}
 use Rattle.grammar.specs.Printing.{text}
 use Rattle.grammar.specs.Refusal.{accepted}
 use Rattle.grammar.specs.Sheet.{Grammar, grammar_of, sheet}
@@ -36,7 +38,7 @@ again_kept : (s : List ℕ) (g : Grammar) → sheet s ≡ accepted g → (input 
 again_kept s g reads = restored_kept g.rule g.variables (sheet_closed s g reads)
 
 -- Demand 3 of a further question over what is restored, of any question that is not refused,
-pub demand_3_restored : (s input : List ℕ) (A p : ℕ) (table restored work table' work' : List ℕ) (r : Answer) → FurtherPromise s input A p restored table' work work' r
+pub demand_3_restored : (s input : List ℕ) (A p : ℕ) (table restored work table' work' : List ℕ) (r : Results Answer Refusal) → FurtherPromise s input A p restored table' work work' r
     → (g : Grammar) → handed s (question_of input (A at p) (length restored) (length work)) ≡ accepted g
     → KeptTable g.rule g.variables input table → RoundTrip g.variables (length input) table restored
     → (a : Reply) × (told r ≡ accepted a) × Demand3Kept s input (A at p) g (contents (length input) restored) table' a
@@ -44,7 +46,7 @@ demand_3_restored s input A p table restored work table' work' r promise g accep
     demand_3_further s input A p restored work table' work' r promise g accepts (again_kept s g (handed_sheet s _ g accepts) input table restored kept trip)
 
 -- and of a correction, over what is restored of a table of the old entry.
-pub demand_3_restored_correct : (s old input : List ℕ) (A p c : ℕ) (table restored work table' work' : List ℕ) (r : Answer)
+pub demand_3_restored_correct : (s old input : List ℕ) (A p c : ℕ) (table restored work table' work' : List ℕ) (r : Results Answer Refusal)
     → CorrectionPromise s old input A p c restored table' work work' r
     → (g : Grammar) → handed s (question_of input (A at p) (length restored) (length work)) ≡ accepted g → c < length input → differs_elsewhere c old input ≡ false
     → KeptTable g.rule g.variables old table → RoundTrip g.variables (length old) table restored
@@ -53,11 +55,11 @@ demand_3_restored_correct s old input A p c table restored work table' work' r p
     demand_3_correct s old input A p c restored work table' work' r promise g accepts below same (again_kept s g (handed_sheet s _ g accepts) old table restored kept trip)
 
 -- Each marked case, asked, stored, restored, and asked further: the same outcome and named pair again, which `case_answered` of memo gives.
-pub restored_case : (c : Case) → Memᴰ c cases → (table table' work work' : List ℕ) (r : Answer)
+pub restored_case : (c : Case) → Memᴰ c cases → (table table' work work' : List ℕ) (r : Results Answer Refusal)
     → 2 * cells (grammar_of (text c.lines)).variables (length c.input) ≤ length table
     → cells (grammar_of (text c.lines)).variables (length c.input) ≤ length work
     → QuestionPromise (text c.lines) c.input 1 0 table table' work work' r
-    → (restored after work₂ work₂' : List ℕ) (q : Answer) → RoundTrip (grammar_of (text c.lines)).variables (length c.input) table' restored
+    → (restored after work₂ work₂' : List ℕ) (q : Results Answer Refusal) → RoundTrip (grammar_of (text c.lines)).variables (length c.input) table' restored
     → cells (grammar_of (text c.lines)).variables (length c.input) ≤ length work₂
     → FurtherPromise (text c.lines) c.input 1 0 restored after work₂ work₂' q → Alike q r
 restored_case c m table table' work work' r room work_room asks restored after work₂ work₂' q trip work-room₂ asks-further =

@@ -1,4 +1,7 @@
 -- Document 00, sentence by sentence, of any results that meet the contracts of the calls. Assumes nothing.
+use Rattle.std.specs.Prelude.{Result as Results, Ok}
+use Rattle.grammar.specs.declared.refusal.Refusal.{Refusal}
+use Rattle.checker.specs.declared.Rejection.{Rejection}
 use Rattle.std.specs.Prelude.{List, ◌⊎◌, ◌≢◌, ◌↔◌, ◌≡◌, ℕ, ◌≤◌, length}
 use Rattle.grammar.specs.Refusal.{Checked, refused, accepted}
 use Rattle.grammar.specs.Sheet.{Grammar}
@@ -9,7 +12,7 @@ use Rattle.schema.specs.Table.{Within, cells, decided, held, Holds}
 use Rattle.finish.specs.Reply.{Reply, outcome_of, count_of}
 use Rattle.verdict.specs.Verdict.{numbers}
 use Rattle.verdict.specs.declared.Judgement.{Judgement}
-use Rattle.verdict.specs.declared.Judgement.TheVariants.{Recognised, Partial, Failure, Loop, Missing, Refused}
+use Rattle.grammar.specs.Numbers.{checked_as}
 use Rattle.backtrack.specs.Run as run
 use Rattle.backtrack.specs.declared.Ending.{Ending}
 use Rattle.checker.specs.Checker.{Claimed, succeeds, fails, Checks, told}
@@ -19,13 +22,8 @@ use Rattle.kept.specs.New.{New}
 -- ---- Demand 1.
 
 -- A refusal with its number and line, or the numbers of a verdict.
-abbrev pub verdict_told : Judgement → Checked (List ℕ)
-verdict_told (Refused number line) = refused number line
-verdict_told (Recognised q count) = accepted (numbers (Recognised q count))
-verdict_told (Partial q count) = accepted (numbers (Partial q count))
-verdict_told (Failure count) = accepted (numbers (Failure count))
-verdict_told (Loop A p count) = accepted (numbers (Loop A p count))
-verdict_told (Missing A p count) = accepted (numbers (Missing A p count))
+abbrev pub verdict_told : Results Judgement Refusal → Checked (List ℕ)
+verdict_told = checked_as (λ j. numbers (Ok j))
 
 -- ---- Demand 3.
 
@@ -43,11 +41,11 @@ pub record Demand3 (sheet input : List ℕ) (x : Pair) (g : Grammar) (Counted : 
   -- "If the machine, moving as document 01 says and lent any moves and frames for the same question, names one of the"
   -- three, "that is the engine's answer, a success with the same end."
   pub machine_agrees : (budget room : ℕ) (o : Outcome) (moves : ℕ) → machine g.rule input x budget room ≡ ran (says o) moves → outcome_of a ≡ o
-  pub run_agrees : (frames frames' : List ℕ) (budget : ℕ) (r : Ending) → run.Runs sheet input x frames frames' budget r
+  pub run_agrees : (frames frames' : List ℕ) (budget : ℕ) (r : Results Ending Refusal) → run.Runs sheet input x frames frames' budget r
       → (o : Outcome) (moves : ℕ) → run.told r ≡ accepted (ran (says o) moves) → outcome_of a ≡ o
   -- "If the checker, passing exactly what demand 2 says, passes any reading handed in for the same question, the engine's answer is the one the
   -- reading claims, a success with the same end."
-  pub checker_agrees : (reading : List ℕ) (r : Claim) → Checks sheet input x reading r → (c : Claimed) → told r ≡ accepted c → outcome_of a ≡ claimed_outcome c
+  pub checker_agrees : (reading : List ℕ) (r : Results Claim Rejection) → Checks sheet input x reading r → (c : Claimed) → told r ≡ accepted c → outcome_of a ≡ claimed_outcome c
   -- "Each pair the question reaches has its outcome in its cell, as document 01 writes it;"
   pub cells_hold : (y : Pair) → Reached g.rule input x y → Holds g.rule input table y
   -- "the count of decided cells that the engine reports equals the number of these pairs, and is never more than variables times (bytes + 1)."

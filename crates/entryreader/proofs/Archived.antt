@@ -7,10 +7,9 @@ use native.Mathlib.Omega.{arith}
 use lib.ListN.{length}
 use Rattle.grammar.specs.Refusal.{refused}
 use Rattle.schema.specs.Exported.{Fits}
-use Rattle.archive.specs.Archive.{told, MovePromise}
+use Rattle.archive.specs.Archive.{Stored, told, MovePromise}
 use Rattle.archive.specs.Layout.{Layout}
 use Rattle.archive.specs.Refusals.{ArchiveRefuses}
-use Rattle.archive.specs.declared.Stored.{Stored}
 use Rattle.archive.proofs.Promised as promised
 use Rattle.reports.proofs.Fitting.{fits_each}
 use Rattle.entryreader.specs.Archived.{StoredNumbers}

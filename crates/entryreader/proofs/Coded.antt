@@ -21,6 +21,8 @@ use Rattle.schema.proofs.Small.{refusal_small}
 use Rattle.finish.specs.Reply.{reply}
 use Rattle.verdict.specs.Verdict.{numbers, Judges, VerdictPromise}
 use Rattle.verdict.specs.Verdict as verdict
+use Rattle.std.specs.Prelude.{Result}
+use Rattle.grammar.specs.declared.refusal.Refusal.{Refusal}
 use Rattle.verdict.specs.declared.Judgement.{Judgement}
 use Rattle.entryreader.specs.Codes.{Coded, VerdictCode, code_of}
 
@@ -37,7 +39,7 @@ outcome_code : (n : ℕ) (o : Outcome) (z : Pair) (count : ℕ) → code_of (ver
 outcome_code n o (A at p) count = let k = verdict_code_most n o in rw (ne_eqb (verdict_code n o) 9 (λ e. omega arith)) refl
 
 -- The code of a verdict is the one that is exported for slices of these lengths.
-pub verdict_coded : (s input table table' work work' : List ℕ) (j : Judgement) → VerdictPromise s input table table' work work' j
+pub verdict_coded : (s input table table' work work' : List ℕ) (j : Result Judgement Refusal) → VerdictPromise s input table table' work work' j
     → Coded (handed s (verdict_of input (length table) (length work))) input (code_of (numbers j))
 verdict_coded s input table table' work work' j promise = by_sheet (handed s (verdict_of input (length table) (length work))) promise
   where

@@ -25,6 +25,8 @@ use Rattle.writer.proofs.Following.{write_follows}
 use Rattle.checker.specs.Checker.{check_condition, check_order, check}
 use Rattle.checker.proofs.CheckRefusals.{check_refused_exactly}
 use Rattle.reports.specs.Numbers.{question_numbers, writer_numbers, WriterNumbers, claim_numbers, CheckNumbers}
+use Rattle.std.specs.Prelude.{Result}
+use Rattle.grammar.specs.declared.refusal.Refusal.{Refusal}
 use Rattle.finish.specs.declared.Answer.{Answer}
 use Rattle.correction.specs.Refusals.{CorrectionRefuses, FurtherRefuses}
 use Rattle.correction.proofs.Promised as promised
@@ -220,7 +222,7 @@ module _ (s input : List ℕ) (A p : ℕ) (reading answer answer' : List ℕ) (r
 
 -- ---- The correction and the further question.
 
-module _ {Promise : Answer → Type 0} {answer answer' : List ℕ} {r : ℕ} (numbers : AnswerNumbers Promise answer answer' r) {unchanged : Type 0}
+module _ {Promise : Result Answer Refusal → Type 0} {answer answer' : List ℕ} {r : ℕ} (numbers : AnswerNumbers Promise answer answer' r) {unchanged : Type 0}
     (then_unchanged : (x l : ℕ) → told numbers.found ≡ refused x l → unchanged) where
   -- Where such a call does not return 0, everything is as it was, the answer too.
   answer_unchanged : r ≢ 0 → unchanged × (answer' ≡ answer)

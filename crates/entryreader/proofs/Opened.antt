@@ -10,14 +10,15 @@ use Rattle.schema.specs.Exported.{Fits}
 use Rattle.schema.specs.Handed.{Refuses, verdict_of}
 use Rattle.schema.proofs.Following.{Follows}
 use Rattle.opening.specs.Opening.{told, OpeningPromise}
-use Rattle.opening.specs.declared.Prefix.{Prefix}
+use Rattle.std.specs.Prelude.{Result, Option as Maybe}
+use Rattle.grammar.specs.declared.refusal.Refusal.{Refusal}
 use Rattle.opening.proofs.Promised.{opening_follows, opening_small}
 use Rattle.reports.proofs.Fitting.{fits_each}
 use Rattle.entryreader.specs.Opened.{opening_numbers, OpeningNumbers}
 use Rattle.entryreader.proofs.Demand1.{follows_refused, follows_answered, follows_unchanged}
 
 -- The number of a refusal fits 32 bits.
-pub opening_fits : (s input table table' work work' : List ℕ) (r : Prefix) → OpeningPromise s input table table' work work' r → Fits (λ _. 0) (told r)
+pub opening_fits : (s input table table' work work' : List ℕ) (r : Result (Maybe ℕ) Refusal) → OpeningPromise s input table table' work work' r → Fits (λ _. 0) (told r)
 opening_fits s input table table' work work' r promise =
     fits_each (λ _. 0) (told r) (λ x l e. let k = opening_small s input table work table' work' r promise x l e in omega arith) (λ a e. omega arith)
 

@@ -6,7 +6,9 @@ use native.Mathlib.Omega.{arith}
 use Rattle.grammar.specs.Promise.{told, line_one, SheetPromise}
 use Rattle.grammar.specs.Refusal.{Checked, refused, accepted}
 use Rattle.grammar.specs.Sheet.{Grammar, grammar_of, condition, sheet_order, sheet}
-use Rattle.grammar.specs.declared.sheet.Sheet.{Sheet}
+use Rattle.std.specs.Prelude.{Result}
+use Rattle.grammar.specs.declared.refusal.Refusal.{Refusal}
+use Rattle.grammar.specs.declared.sheet.Grammar.{Grammar as Header}
 use Rattle.grammar.proofs.Refusals.{refused_each}
 use Rattle.grammar.proofs.SheetRefusals.{sheet_numbers_law}
 use Rattle.schema.specs.Exported.{returned, Fits}
@@ -22,7 +24,7 @@ line_returned : (o : Checked Grammar) → returned (line_one o) ≡ returned o
 line_returned (refused x l) = refl
 line_returned (accepted g) = refl
 
-module _ (s before after : List ℕ) (r : Sheet) (promise : SheetPromise s before after r) where
+module _ (s before after : List ℕ) (r : Result Header Refusal) (promise : SheetPromise s before after r) where
   -- The number fits 32 bits.
   pub sheet_fits : Fits (λ (numbers : List ℕ). 0) (told r)
   sheet_fits = subst (Fits (λ (numbers : List ℕ). 0)) (sym promise.says) (by_sheet (sheet s) refl)

@@ -14,6 +14,8 @@ use Rattle.schema.proofs.Handed.{handed_input, handed_pair}
 use Rattle.schema.proofs.Small.{refusal_small, code_small}
 use Rattle.finish.specs.Reply.{Reply, outcome_of, told}
 use Rattle.memo.specs.Answer.{Replies, QuestionPromise}
+use Rattle.std.specs.Prelude.{Result}
+use Rattle.grammar.specs.declared.refusal.Refusal.{Refusal}
 use Rattle.finish.specs.declared.Answer.{Answer}
 use Rattle.memo.proofs.Promised.{one_result}
 use Rattle.kept.specs.Kept.{retained}
@@ -28,7 +30,7 @@ use Rattle.entryreader.specs.Codes.{QuestionNumbers}
 
 module _ (s input : List ℕ) (A p : ℕ) (table table' work work' : List ℕ) where
   -- The numbers of an answer fit 32 bits.
-  pub answer_fits : (r : Answer) → QuestionPromise s input A p table table' work work' r → Fits reply_code (told r)
+  pub answer_fits : (r : Result Answer Refusal) → QuestionPromise s input A p table table' work work' r → Fits reply_code (told r)
   answer_fits r promise = by_sheet (handed s (question_of input (A at p) (length table) (length work))) refl promise
     where
       by_sheet : (o : Checked Grammar) → handed s (question_of input (A at p) (length table) (length work)) ≡ o
@@ -49,7 +51,7 @@ call_fits found input x Kept start table table' work work' t small short promise
     by_sheet (refused y l) e m = subst (Fits reply_code) (sym m.0) (small y l e)
     by_sheet (accepted g) e m = let few = short g e in subst (Fits reply_code) (sym m.accepts) (omega (arith, m.small))
 
-pub correction_fits : (s old input : List ℕ) (A p c : ℕ) (table table' work work' : List ℕ) (r : Answer) → CorrectionPromise s old input A p c table table' work work' r
+pub correction_fits : (s old input : List ℕ) (A p c : ℕ) (table table' work work' : List ℕ) (r : Result Answer Refusal) → CorrectionPromise s old input A p c table table' work work' r
     → Fits reply_code (told r)
 correction_fits s old input A p c table table' work work' r promise =
     let own = correction_condition old input c table in
@@ -57,7 +59,7 @@ correction_fits s old input A p c table table' work work' r promise =
     (call_small s input (A at p) (length table) (length work) own correction_order 26 (omega arith) (omega arith, (omega arith, (omega arith, tt))))
     (λ g e. handed_input s _ g (question_accepted s input (A at p) (length table) (length work) own correction_order correction_late g e)) promise
 
-pub further_fits : (s input : List ℕ) (A p : ℕ) (table table' work work' : List ℕ) (r : Answer) → FurtherPromise s input A p table table' work work' r → Fits reply_code (told r)
+pub further_fits : (s input : List ℕ) (A p : ℕ) (table table' work work' : List ℕ) (r : Result Answer Refusal) → FurtherPromise s input A p table table' work work' r → Fits reply_code (told r)
 further_fits s input A p table table' work work' r promise =
     let own = further_condition input table in
     call_fits (askable s input (A at p) table (length work)) input (A at p) (KeptOf input table) (contents (length input) table) table table' work work' (told r)

@@ -1,8 +1,7 @@
 -- What the exported calls for storing and restoring hand over. Assumes nothing.
 use Rattle.std.specs.Prelude.{List, ◌≡◌, ℕ}
 use Rattle.schema.specs.Exported.{returned}
-use Rattle.archive.specs.Archive.{told, StorePromise, RestorePromise}
-use Rattle.archive.specs.declared.Stored.{Stored}
+use Rattle.archive.specs.Archive.{Stored, told, StorePromise, RestorePromise}
 
 -- The promise of such a call, with 0, or 100 plus the refusal's number. It has no other answer.
 pub record StoredNumbers (Promise : Stored → Type 0) (r : ℕ) : Type 0 where

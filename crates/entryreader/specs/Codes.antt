@@ -1,7 +1,8 @@
 -- The numbers that the exported calls hand over. Assumes nothing.
-use Rattle.std.specs.Prelude.{cond, List, [], ◌∷◌, ◌≡◌, ℕ, suc, ◌+◌, eqb, length, get_or}
+use Rattle.std.specs.Prelude.{cond, List, [], ◌∷◌, ◌≡◌, ℕ, suc, ◌+◌, eqb, length, get_or, Result}
 use Rattle.grammar.specs.Refusal.{Checked, refused, accepted}
 use Rattle.grammar.specs.Promise.{line_one, stored}
+use Rattle.grammar.specs.declared.refusal.Refusal.{Refusal}
 use Rattle.grammar.specs.Sheet.{Grammar, sheet}
 use Rattle.schema.specs.Derivation.{◌at◌, Outcome, Has}
 use Rattle.schema.specs.Exported.{returned, reported}
@@ -16,7 +17,6 @@ use Rattle.verdict.specs.declared.Judgement.{Judgement}
 use Rattle.correction.specs.Correction.{CorrectionPromise}
 use Rattle.correction.specs.Further.{FurtherPromise}
 use Rattle.shorthand.specs.Promise.{told as compiles, CompilePromise}
-use Rattle.shorthand.specs.declared.Compiled.{Compiled}
 
 -- ---- The sheet.
 
@@ -49,7 +49,7 @@ code_of xs = cond (eqb (get_or xs 0 0) 9) (100 + get_or xs 1 0) (get_or xs 0 0)
 
 -- The verdict over lent slices: the promise of the verdict, with the four numbers of the first line in the answer, those of a refusal too.
 pub record JudgeNumbers (sheet input table table' work work' answer' : List ℕ) (r : ℕ) : Type 0 where
-  pub found : Judgement
+  pub found : Result Judgement Refusal
   pub promise : VerdictPromise sheet input table table' work work' found
   pub returns : r ≡ 0
   pub reports : answer' ≡ numbers found
@@ -57,8 +57,8 @@ pub record JudgeNumbers (sheet input table table' work work' answer' : List ℕ)
 -- ---- The question, the correction and the further question.
 
 -- The promise of such a call, with its answer in the question's numbers.
-pub record AnswerNumbers (Promise : Answer → Type 0) (answer answer' : List ℕ) (r : ℕ) : Type 0 where
-  pub found : Answer
+pub record AnswerNumbers (Promise : Result Answer Refusal → Type 0) (answer answer' : List ℕ) (r : ℕ) : Type 0 where
+  pub found : Result Answer Refusal
   pub promise : Promise found
   pub returns : r ≡ returned (told found)
   pub reports : answer' ≡ reported question_numbers answer (told found)
@@ -81,7 +81,7 @@ length_numbers n = n ∷ []
 
 -- The call's promise: that of `compile`, with its answer in this number.
 pub record ShorthandNumbers (text out out' answer answer' : List ℕ) (r : ℕ) : Type 0 where
-  pub found : Compiled
+  pub found : Result ℕ Refusal
   pub promise : CompilePromise text out out' found
   pub returns : r ≡ returned (compiles found)
   pub reports : answer' ≡ reported length_numbers answer (compiles found)

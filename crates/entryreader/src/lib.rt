@@ -1,39 +1,34 @@
 // The calls for programs in other languages.
 #![tactic(auto)]
 
-ghost use Rattle.std.specs.Prelude.{◌≤◌, ◌≡◌};
-ghost use Rattle.schema.specs.Exported.{returned, reported, Fits};
+ghost use Rattle.std.specs.Prelude.{◌≤◌, ◌≡◌, Ok};
+ghost use Rattle.schema.specs.Exported.{returned};
 ghost use Rattle.grammar.specs.Promise.{told as read};
-ghost use Rattle.archive.specs.Archive.{told as moves};
-ghost use Rattle.opening.specs.Opening.{told as opens};
-ghost use Rattle.shorthand.specs.Promise.{told};
+ghost use Rattle.opening.specs.Opening.{least_of};
 ghost use Rattle.verdict.specs.Verdict.{numbers};
 ghost use Rattle.reports.specs.Numbers.{WriterNumbers, CheckNumbers};
 ghost use Rattle.entryreader.specs.Codes.{sheet_numbers, SheetNumbers, code_of, VerdictCode, JudgeNumbers, QuestionNumbers, CorrectionNumbers, FurtherNumbers, length_numbers, ShorthandNumbers};
 ghost use Rattle.entryreader.specs.Archived.{StoreNumbers, RestoreNumbers};
 ghost use Rattle.entryreader.specs.Opened.{opening_numbers, OpeningNumbers};
 
-use archive::Stored;
-use grammar::sheet::{Rules, Sheet, read_sheet};
-use opening::Prefix;
-use reports::{report, report_check, report_write};
-use shorthand::Compiled;
-use verdict::{Judgement, numbers_of};
+use grammar::refusal::Refusal;
+use grammar::sheet::{Grammar, Rules, read_sheet};
+use reports::{code, numbers_of, report, report_check, report_write};
+use verdict::Judgement;
 
 // Stores line 1 of a sheet behind a 0, and returns 0; or the number and the line of a refusal, and returns 100 plus the number.
-fn report_sheet(sheet: Sheet, out: &mut [u32; 4]) -> u32
-    requires { Fits (λ _. 0) (read sheet) }
+fn report_sheet(sheet: Result<Grammar, Refusal>, out: &mut [u32; 4]) -> u32
     ensures returns { result ≡ returned (read sheet) }
     ensures reports { out.new ≡ sheet_numbers (read sheet) }
 {
     match sheet {
-        Sheet::Read(grammar) => {
+        Ok(grammar) => {
             *out = [0, grammar.variables, grammar.start, grammar.endmarker];
             0
         }
-        Sheet::Refused(number, line) => {
-            *out = [number, line, 0, 0];
-            100 + number
+        Err(refusal) => {
+            *out = [refusal.number(), refusal.line(), 0, 0];
+            100 + refusal.number()
         }
     }
 }
@@ -47,10 +42,9 @@ pub fn entryreader_sheet(sheet: &[u8], answer: &mut [u32; 4], words: &mut Rules)
     report_sheet(found, answer)
 }
 
-// The code of a verdict, or 100 plus the number of a refusal.
-fn code(judgement: Judgement) -> u32
-    requires { code_of (numbers judgement) ≤ 111 }
-    ensures { result ≡ code_of (numbers judgement) }
+// The code of a verdict.
+fn verdict_code(judgement: Judgement) -> u32
+    ensures { result ≡ code_of (numbers (Ok judgement)) }
 {
     match judgement {
         Judgement::Recognised(_, _) => 0,
@@ -58,7 +52,6 @@ fn code(judgement: Judgement) -> u32
         Judgement::Loop(_, _, _) => 2,
         Judgement::Missing(_, _, _) => 3,
         Judgement::Partial(_, _) => 5,
-        Judgement::Refused(number, _) => 100 + number,
     }
 }
 
@@ -68,7 +61,8 @@ pub fn entryreader_verdict(sheet: &[u8], input: &[u8]) -> u32
 {
     let mut table = [0u32; 2048];
     let mut work = [0u32; 1024];
-    code(verdict::verdict(sheet, input, &mut table, &mut work))
+    let judgement = verdict::verdict(sheet, input, &mut table, &mut work);
+    code(judgement.map(verdict_code).map_err(Refusal::number))
 }
 
 // The verdict on an input, over a lent table and a lent work slice: always 0, with the four numbers of the first line of `readentry` in the answer; a
@@ -83,7 +77,7 @@ pub fn entryreader_judge(
     ensures { JudgeNumbers sheet.now input.now table.old table.new work.old work.new answer.new result }
 {
     let judgement = verdict::verdict(sheet, input, table, work);
-    *answer = numbers_of(judgement);
+    *answer = verdict::numbers_of(judgement);
     0
 }
 
@@ -101,7 +95,7 @@ pub fn entryreader_question(
     ensures { QuestionNumbers sheet.now input.now variable position table.old table.new work.old work.new answer.old answer.new result }
 {
     let found = memo::question(sheet, input, variable, position, table, work);
-    report(found, answer)
+    report(found.map(numbers_of).map_err(Refusal::number), answer)
 }
 
 // A question about an input of which the byte at c was corrected, over a table that was kept of the old input: as the
@@ -120,7 +114,7 @@ pub fn entryreader_correct(
     ensures { CorrectionNumbers sheet.now old.now input.now variable position c table.old table.new work.old work.new answer.old answer.new result }
 {
     let found = correction::correct(sheet, old, input, variable, position, c, table, work);
-    report(found, answer)
+    report(found.map(numbers_of).map_err(Refusal::number), answer)
 }
 
 // A further question about the same input, over a table that was kept of it and of which nothing is blanked: as the question, with the count of newly
@@ -137,7 +131,7 @@ pub fn entryreader_further(
     ensures { FurtherNumbers sheet.now input.now variable position table.old table.new work.old work.new answer.old answer.new result }
 {
     let found = correction::further(sheet, input, variable, position, table, work);
-    report(found, answer)
+    report(found.map(numbers_of).map_err(Refusal::number), answer)
 }
 
 // The question, with its reading in a lent output: 0, with the question's four numbers and the count of lines in the answer; or 100 plus the number of
@@ -172,19 +166,12 @@ pub fn entryreader_check(
     report_check(sheet, input, variable, position, reading, answer)
 }
 
-// Stores the length of a sheet, and returns 0; or 100 plus the number of a refusal.
-fn report_length(compiled: Compiled, out: &mut [u32; 1]) -> u32
-    requires { Fits (λ n. n) (told compiled) }
-    ensures returns { result ≡ returned (told compiled) }
-    ensures reports { out.new ≡ reported length_numbers out.old (told compiled) }
+// The one number of a sheet that a text becomes: its length.
+fn length_numbers(length: usize) -> [u32; 1]
+    requires { length ≤ 10001 }
+    ensures { result ≡ length_numbers length }
 {
-    match compiled {
-        Compiled::Length(n) => {
-            *out = [n as u32];
-            0
-        }
-        Compiled::Refused(number, _) => 100 + number,
-    }
+    [length as u32]
 }
 
 // The rule sheet of a text of the shorthand, at the front of the output: 0, with the sheet's length in the answer; or 100 plus the number of a
@@ -193,25 +180,16 @@ pub fn entryreader_shorthand(text: &[u8], out: &mut [u8], answer: &mut [u32; 1])
     ensures { ShorthandNumbers text.now out.old out.new answer.old answer.new result }
 {
     let compiled = shorthand::compile(text, out);
-    report_length(compiled, answer)
+    report(compiled.map(length_numbers).map_err(Refusal::number), answer)
 }
 
-// Stores 1 and the least number of bytes, or 0 and 0 where there is none, and returns 0; or 100 plus the number of a refusal.
-fn report_opening(found: Prefix, out: &mut [u32; 2]) -> u32
-    requires { Fits (λ _. 0) (opens found) }
-    ensures returns { result ≡ returned (opens found) }
-    ensures reports { out.new ≡ reported opening_numbers out.old (opens found) }
+// 1 and the least number of bytes, or 0 and 0 where there is none.
+fn opening_numbers(least: Option<u32>) -> [u32; 2]
+    ensures { result ≡ opening_numbers (least_of least) }
 {
-    match found {
-        Prefix::Least(m) => {
-            *out = [1, m];
-            0
-        }
-        Prefix::None => {
-            *out = [0, 0];
-            0
-        }
-        Prefix::Refused(number, _) => 100 + number,
+    match least {
+        Some(m) => [1, m],
+        None => [0, 0],
     }
 }
 
@@ -227,18 +205,7 @@ pub fn entryreader_opening(
     ensures { OpeningNumbers sheet.now input.now table.old table.new work.old work.new answer.old answer.new result }
 {
     let found = opening::opening(sheet, input, table, work);
-    report_opening(found, answer)
-}
-
-// 0, or 100 plus the number of a refusal.
-fn report_stored(stored: Stored) -> u32
-    requires { Fits (λ _. 0) (moves stored) }
-    ensures { result ≡ returned (moves stored) }
-{
-    match stored {
-        Stored::Done => 0,
-        Stored::Refused(number, _) => 100 + number,
-    }
+    report(found.map(opening_numbers).map_err(Refusal::number), answer)
 }
 
 // Stores a table of so many variables, of an input of so many bytes, by position: 0, or 100 plus the number of a refusal, with nothing changed.
@@ -246,7 +213,7 @@ pub fn entryreader_store(variables: u32, length: u32, table: &[u32], stored: &mu
     ensures { StoreNumbers variables length table.now stored.old stored.new result }
 {
     let found = archive::store(variables, length, table, stored);
-    report_stored(found)
+    code(found.map(|()| 0).map_err(Refusal::number))
 }
 
 // Restores a table that was stored by position: 0, or 100 plus the number of a refusal, with nothing changed.
@@ -254,5 +221,5 @@ pub fn entryreader_restore(variables: u32, length: u32, stored: &[u32], table: &
     ensures { RestoreNumbers variables length stored.now table.old table.new result }
 {
     let found = archive::restore(variables, length, stored, table);
-    report_stored(found)
+    code(found.map(|()| 0).map_err(Refusal::number))
 }

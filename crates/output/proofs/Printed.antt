@@ -5,6 +5,8 @@ use mathlib.Core.Path.{◌≡◌, refl, sym, ap, ◌∙◌, subst}
 use Prim.Native.Nat.{ℕ, ◌*◌, ◌≤◌}
 use native.Mathlib.Omega.{arith}
 use lib.ListN.{length, get_or, drop}
+use Rattle.std.specs.Prelude.{Result as Results}
+use Rattle.grammar.specs.declared.refusal.Refusal.{Refusal}
 use Rattle.columns.specs.Column.{row}
 use Rattle.grammar.specs.Refusal.{Checked, refused, accepted}
 use Rattle.grammar.specs.Sheet.{Grammar}
@@ -63,13 +65,13 @@ module _ (s input : List ℕ) (tables works : ℕ) (tables-are : tables ≡ 2048
       }
 
 -- What stands behind the first line: the bytes bs, then what stood there.
-pub record Behind (s input : List ℕ) (j : Judgement) (o o' : List ℕ) (count : ℕ) : Type 0 where
+pub record Behind (s input : List ℕ) (j : Results Judgement Refusal) (o o' : List ℕ) (count : ℕ) : Type 0 where
   pub bytes : List ℕ
   pub printing : Printing (handed s (verdict_of input 2048 1024)) input (row 8 (numbers j) ++ bytes)
   pub size : length bytes ≡ 49 * count
   pub put : o' ≡ bytes ++ drop (length bytes) o
 
-module _ (s input table table' work work' : List ℕ) (j : Judgement) (e : length table ≡ 2048) (f : length work ≡ 1024)
+module _ (s input table table' work work' : List ℕ) (j : Results Judgement Refusal) (e : length table ≡ 2048) (f : length work ≡ 1024)
     (promise : VerdictPromise s input table table' work work' j) (o o' : List ℕ) (count : ℕ)
     {code tables works : ℕ} (code_is : code ≡ get_or (numbers j) 0 0) (tables-are : tables ≡ 2048) (works-are : works ≡ 1024)
     (certificate : Certificate s input code tables works o o' count) (room : 50176 ≤ length o) where

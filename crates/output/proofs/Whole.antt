@@ -5,6 +5,8 @@ use Prim.Native.Nat.{ℕ, ◌+◌, ◌-◌, ◌*◌, ◌≤◌}
 use native.Mathlib.Omega.{arith}
 use lib.ListN.{length, get_or, drop, length-drop, length-append}
 use borrow.Rule.Slice.PartMut.{put_mid, mid_of, post_of}
+use Rattle.std.specs.Prelude.{Result as Results}
+use Rattle.grammar.specs.declared.refusal.Refusal.{Refusal}
 use Rattle.columns.specs.Column.{row}
 use Rattle.columns.proofs.Rows.{row_length}
 use Rattle.verdict.specs.Verdict.{numbers, VerdictPromise}
@@ -13,7 +15,7 @@ use Rattle.output.specs.Output.{Certificate, Puts}
 use Rattle.output.proofs.Printed.{behind}
 use Rattle.output.proofs.Joined.{four_numbers, lent_is, joined}
 
-module _ (s input table table' work work' out : List ℕ) (j : Judgement) (e : length table ≡ 2048) (f : length work ≡ 1024)
+module _ (s input table table' work work' out : List ℕ) (j : Results Judgement Refusal) (e : length table ≡ 2048) (f : length work ≡ 1024)
     (promise : VerdictPromise s input table table' work work' j) (room : 50209 ≤ length out) (four line : List ℕ) (four_are : four ≡ numbers j)
     (line_is : line ≡ row 8 (get_or four 0 0 ∷ get_or four 1 0 ∷ get_or four 2 0 ∷ get_or four 3 0 ∷ [])) where
   size : length line ≡ 33

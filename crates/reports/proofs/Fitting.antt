@@ -15,12 +15,15 @@ use Rattle.schema.specs.Handed.{Handed, asked, handed, writer_of}
 use Rattle.schema.specs.Table.{code}
 use Rattle.schema.proofs.Handed.{handed_input, handed_pair}
 use Rattle.schema.proofs.Small.{refusal_small, code_small}
-use Rattle.finish.specs.Reply.{outcome_of, told}
-use Rattle.writer.specs.Writer.{RepliesWriting, WriterPromise}
+use Rattle.finish.specs.Reply.{outcome_of}
+use Rattle.writer.specs.Writer.{told, lines_in, RepliesWriting, WriterPromise}
+use Rattle.std.specs.Prelude.{Result as Maybe}
+use Rattle.grammar.specs.declared.refusal.Refusal.{Refusal}
 use Rattle.writer.specs.declared.Written.{Written}
 use Rattle.checker.specs.Checker.{told as claims, lines, line_at, check_condition, check_order, claim_of, Claimed, check, Checks}
 use Rattle.checker.specs.Proper.{claimed}
 use Rattle.checker.specs.declared.Claim.{Claim}
+use Rattle.checker.specs.declared.Rejection.{Rejection}
 use Rattle.checker.proofs.Call as checker
 use Rattle.checker.proofs.CheckRefusals.{check_numbers as refusal-numbers}
 use Rattle.reports.specs.Numbers.{reply_code, claim_code, claim_numbers, CheckNumbers}
@@ -38,13 +41,13 @@ fits_each code_of_lem (accepted a) small few = few a refl
 
 -- ---- The writer.
 
-module _ (s input : List ℕ) (A p : ℕ) (table table' work work' out out' : List ℕ) (r : Written)
+module _ (s input : List ℕ) (A p : ℕ) (table table' work work' out out' : List ℕ) (r : Maybe Written Refusal)
     (promise : WriterPromise s input A p table table' work work' out out' r) where
-  pub writer_fits : Fits reply_code (told r.answer)
+  pub writer_fits : Fits reply_code (told r)
   writer_fits = by_sheet (handed s (writer_of input (A at p) (length table) (length work) (length out))) refl promise
     where
       by_sheet : (o : Checked Grammar) → handed s (writer_of input (A at p) (length table) (length work) (length out)) ≡ o
-          → RepliesWriting o input (A at p) table table' work work' out out' (told r.answer) r.lines → Fits reply_code (told r.answer)
+          → RepliesWriting o input (A at p) table table' work work' out out' (told r) (lines_in r) → Fits reply_code (told r)
       by_sheet (refused x l) e m = let k = refusal_small s _ x l e in subst (Fits reply_code) (sym m.0) (omega arith)
       by_sheet (accepted g) e m =
           let a = m.2 in
@@ -64,7 +67,7 @@ claim_code_law : (A p : ℕ) (t : Result) → claim_code (claimed (A at p) t) �
 claim_code_law A p (success q) = refl
 claim_code_law A p failure = refl
 
-module _ (s input : List ℕ) (A p : ℕ) (reading : List ℕ) (r : Claim) (checks : Checks s input (A at p) reading r) where
+module _ (s input : List ℕ) (A p : ℕ) (reading : List ℕ) (r : Maybe Claim Rejection) (checks : Checks s input (A at p) reading r) where
   passed : (c : Claimed) → claims r ≡ accepted c → (o : Checked Grammar) → handed s (asked input (A at p)) ≡ o → claim_code c ≤ 10001
   passed c f (refused y l) e = let k = checker.call_refused s input (A at p) reading r checks y l e in absurd (true≢false (cc))
   passed c f (accepted g) e =

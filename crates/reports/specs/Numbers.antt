@@ -1,12 +1,26 @@
 -- The numbers of answers, written readings and claims that exported calls hand over. Assumes nothing.
-use Rattle.std.specs.Prelude.{List, [], ◌∷◌, ◌++◌, ◌≡◌, ℕ}
+use Rattle.std.specs.Prelude.{List, [], ◌∷◌, ◌++◌, ◌≡◌, ℕ, ◌+◌, Result, Ok, Err}
+use Rattle.grammar.specs.Refusal.{Checked, refused, accepted}
+use Rattle.grammar.specs.declared.refusal.Refusal.{Refusal}
 use Rattle.schema.specs.Derivation.{◌at◌, success, failure, result}
 use Rattle.schema.specs.Exported.{returned, reported}
 use Rattle.schema.specs.Table.{code}
-use Rattle.finish.specs.Reply.{Reply, reply, outcome_of, told}
-use Rattle.writer.specs.Writer.{WriterPromise}
+use Rattle.finish.specs.Reply.{Reply, reply, outcome_of}
+use Rattle.writer.specs.Writer.{told, lines_in, WriterPromise}
 use Rattle.writer.specs.declared.Written.{Written}
 use Rattle.checker.specs.Checker.{Claimed, succeeds, fails, check}
+
+-- ---- Any call.
+
+-- The number of an answer, "or 100 plus the refusal number".
+abbrev pub number_of : Result ℕ ℕ → ℕ
+number_of (Ok number) = number
+number_of (Err number) = 100 + number
+
+-- What numbers, or the number of a refusal, say of an answer.
+abbrev pub handed_over : Result (List ℕ) ℕ → Checked (List ℕ)
+handed_over (Ok numbers) = accepted numbers
+handed_over (Err number) = refused number 0
 
 -- ---- The question.
 
@@ -27,10 +41,10 @@ writer_numbers lines a = question_numbers a ++ lines ∷ []
 
 -- The call's promise: that of the writer, with its answer and the count of lines in these numbers.
 pub record WriterNumbers (sheet input : List ℕ) (A p : ℕ) (table table' work work' out out' answer answer' : List ℕ) (r : ℕ) : Type 0 where
-  pub found : Written
+  pub found : Result Written Refusal
   pub promise : WriterPromise sheet input A p table table' work work' out out' found
-  pub returns : r ≡ returned (told found.answer)
-  pub reports : answer' ≡ reported (writer_numbers found.lines) answer (told found.answer)
+  pub returns : r ≡ returned (told found)
+  pub reports : answer' ≡ reported (writer_numbers (lines_in found)) answer (told found)
 
 -- ---- The checker.
 

@@ -1,48 +1,64 @@
 // The numbers of an answer, of a written reading and of a claim, for programs in other languages.
 #![tactic(auto)]
 
-ghost use Rattle.std.specs.Prelude.{◌≡◌};
-ghost use Rattle.schema.specs.Exported.{returned, reported, Fits};
-ghost use Rattle.finish.specs.Reply.{told};
-ghost use Rattle.checker.specs.Checker.{told as claimed};
-ghost use Rattle.reports.specs.Numbers.{reply_code, question_numbers, writer_numbers, WriterNumbers, claim_code, claim_numbers, CheckNumbers};
+ghost use Rattle.std.specs.Prelude.{◌≡◌, ◌≤◌, IfErr};
+ghost use Rattle.schema.specs.Exported.{returned, reported};
+ghost use Rattle.finish.specs.Reply.{reply_of};
+ghost use Rattle.checker.specs.Checker.{claim_says};
+ghost use Rattle.reports.specs.Numbers.{handed_over, number_of, reply_code, question_numbers, writer_numbers, WriterNumbers, claim_code, claim_numbers, CheckNumbers};
 
 use cells::Cell;
-use checker::Claim;
+use checker::{Claim, Rejection};
 use finish::Answer;
+use grammar::refusal::Refusal;
+use writer::Written;
 
-// Stores the four numbers of an answer, and returns 0; or 100 plus the number of a refusal.
-pub fn report(answer: Answer, out: &mut [u32; 4]) -> u32
-    requires { Fits reply_code (told answer) }
-    ensures returns { result ≡ returned (told answer) }
-    ensures reports { out.new ≡ reported question_numbers out.old (told answer) }
+// The number of an answer, or 100 plus the number of a refusal.
+pub fn code(answer: Result<u32, u32>) -> u32
+    requires { IfErr answer (λ number. number ≤ 26) }
+    ensures { result ≡ number_of answer }
 {
-    let four = match answer {
+    match answer {
+        Ok(number) => number,
+        Err(number) => 100 + number,
+    }
+}
+
+// Stores the numbers of an answer, and returns 0; or returns 100 plus the number of a refusal, and stores nothing.
+pub fn report<const N: usize>(answer: Result<[u32; N], u32>, out: &mut [u32; N]) -> u32
+    requires { IfErr answer (λ number. number ≤ 26) }
+    ensures returns { result ≡ returned (handed_over answer.entry) }
+    ensures reports { out.new ≡ reported (λ numbers. numbers) out.old (handed_over answer.entry) }
+{
+    match answer {
+        Ok(numbers) => {
+            *out = numbers;
+            0
+        }
+        Err(number) => 100 + number,
+    }
+}
+
+// The four numbers of an answer.
+pub fn numbers_of(answer: Answer) -> [u32; 4]
+    requires { reply_code (reply_of answer) ≤ 10001 }
+    ensures { result ≡ question_numbers (reply_of answer) }
+{
+    match answer {
         Answer::Success(end, count) => [Cell::SUCCESS.0 + end, 0, 0, count],
         Answer::Failure(count) => [Cell::FAILURE.0, 0, 0, count],
         Answer::Loop(variable, position, count) => [Cell::LOOP.0, variable, position, count],
         Answer::Missing(variable, position, count) => [Cell::MISSING.0, variable, position, count],
-        Answer::Refused(number, _) => {
-            return 100 + number;
-        }
-    };
-    *out = four;
-    0
+    }
 }
 
-// Stores the four numbers of an answer and the count of lines, and returns 0; or 100 plus the number of a refusal.
-fn report_written(answer: Answer, lines: u32, out: &mut [u32; 5]) -> u32
-    requires { Fits reply_code (told answer) }
-    ensures returns { result ≡ returned (told answer) }
-    ensures reports { out.new ≡ reported (writer_numbers lines) out.old (told answer) }
+// The four numbers of an answer, and the count of lines.
+fn with_lines(written: Written) -> [u32; 5]
+    requires { reply_code (reply_of written.answer) ≤ 10001 }
+    ensures { result ≡ writer_numbers written.lines (reply_of written.answer) }
 {
-    let mut four = [0u32; 4];
-    let code = report(answer, &mut four);
-    if code == 0 {
-        let five = [four[0], four[1], four[2], four[3], lines];
-        *out = five;
-    }
-    code
+    let [code, variable, position, count] = numbers_of(written.answer);
+    [code, variable, position, count, written.lines]
 }
 
 // The writer's question about a variable at a position of the input, over a lent table, a lent work slice and a lent output: 0, with the four numbers
@@ -60,25 +76,18 @@ pub fn report_write(
     ensures { WriterNumbers sheet.now input.now variable position table.old table.new work.old work.new out.old out.new answer.old answer.new result }
 {
     let written = writer::write(sheet, input, variable, position, table, work, out);
-    let found = written.answer;
-    report_written(found, written.lines, answer)
+    report(written.map(with_lines).map_err(Refusal::number), answer)
 }
 
-// Stores the two numbers of a claim, and returns 0; or 100 plus the number of a refusal.
-fn report_claim(claim: Claim, out: &mut [u32; 2]) -> u32
-    requires { Fits claim_code (claimed claim) }
-    ensures returns { result ≡ returned (claimed claim) }
-    ensures reports { out.new ≡ reported claim_numbers out.old (claimed claim) }
+// The two numbers of a claim.
+fn numbers_of_claim(claim: Claim) -> [u32; 2]
+    requires { claim_code (claim_says claim) ≤ 10001 }
+    ensures { result ≡ claim_numbers (claim_says claim) }
 {
-    let two = match claim {
+    match claim {
         Claim::Success(end) => [Cell::SUCCESS.0 + end, end],
         Claim::Failure(end) => [Cell::FAILURE.0, end],
-        Claim::Refused(number, _) => {
-            return 100 + number;
-        }
-    };
-    *out = two;
-    0
+    }
 }
 
 // The checker on a reading for a variable at a position of the input: 0, with the code of the outcome that it claims and the end in its last line in
@@ -94,5 +103,5 @@ pub fn report_check(
     ensures { CheckNumbers sheet.now input.now variable position reading.now answer.old answer.new result }
 {
     let found = checker::check(sheet, input, variable, position, reading);
-    report_claim(found, answer)
+    report(found.map(numbers_of_claim).map_err(Rejection::number), answer)
 }

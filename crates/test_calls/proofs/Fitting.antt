@@ -11,12 +11,14 @@ use Rattle.schema.specs.Handed.{asked, handed}
 use Rattle.schema.specs.Machine.{says, spent, no_frame, Ran, ran}
 use Rattle.schema.proofs.Small.{refusal_small}
 use Rattle.backtrack.specs.Run.{told as ended, Comes, Runs}
+use Rattle.std.specs.Prelude.{Result}
+use Rattle.grammar.specs.declared.refusal.Refusal.{Refusal}
 use Rattle.backtrack.specs.declared.Ending.{Ending}
 use Rattle.backtrack.proofs.Call as machine
 use Rattle.reports.proofs.Fitting.{accepted_code}
 use Rattle.test_calls.specs.Numbers.{ran_code}
 
-module _ (s input : List ℕ) (A p : ℕ) (frames frames' : List ℕ) (budget : ℕ) (r : Ending) (runs : Runs s input (A at p) frames frames' budget r) where
+module _ (s input : List ℕ) (A p : ℕ) (frames frames' : List ℕ) (budget : ℕ) (r : Result Ending Refusal) (runs : Runs s input (A at p) frames frames' budget r) where
   run_ended : (g : Grammar) → handed s (asked input (A at p)) ≡ accepted g → (a : Ran) → ended r ≡ accepted a → ran_code a ≤ 10001
   run_ended g e (ran (says o) moves) f =
       accepted_code s _ g A p e refl o (machine.call_derived s input (A at p) frames frames' budget r runs g e o (moves, f))

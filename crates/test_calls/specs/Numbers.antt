@@ -1,5 +1,6 @@
 -- The numbers that the exported call of the machine hands over. Assumes nothing.
-use Rattle.std.specs.Prelude.{List, [], ◌∷◌, ◌≡◌, ℕ}
+use Rattle.std.specs.Prelude.{List, [], ◌∷◌, ◌≡◌, ℕ, Result}
+use Rattle.grammar.specs.declared.refusal.Refusal.{Refusal}
 use Rattle.schema.specs.Derivation.{◌at◌, success, failure, Outcome, result, stopped, loop}
 use Rattle.schema.specs.Exported.{returned, reported}
 use Rattle.schema.specs.Machine.{RunOutcome, says, spent, no_frame, Ran, ran}
@@ -36,7 +37,7 @@ run_numbers (ran o moves) = run_code o ∷ run_end o ∷ moves ∷ []
 
 -- The call's promise: that of the machine's run, with its ending in these numbers.
 pub record RunNumbers (sheet input : List ℕ) (A p : ℕ) (frames frames' : List ℕ) (budget : ℕ) (answer answer' : List ℕ) (r : ℕ) : Type 0 where
-  pub found : Ending
+  pub found : Result Ending Refusal
   pub promise : Runs sheet input (A at p) frames frames' budget found
   pub returns : r ≡ returned (ended found)
   pub reports : answer' ≡ reported run_numbers answer (ended found)

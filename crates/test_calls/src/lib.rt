@@ -2,15 +2,15 @@
 // Each call returns 0 with its numbers in `answer`, or 100 plus the number of a refusal, with everything lent to it unchanged.
 #![tactic(auto)]
 
-ghost use Rattle.std.specs.Prelude.{◌≡◌};
-ghost use Rattle.schema.specs.Exported.{returned, reported, Fits};
-ghost use Rattle.backtrack.specs.Run.{told as ended};
+ghost use Rattle.std.specs.Prelude.{◌≡◌, ◌≤◌};
+ghost use Rattle.backtrack.specs.Run.{ending_says};
 ghost use Rattle.reports.specs.Numbers.{WriterNumbers, CheckNumbers};
 ghost use Rattle.test_calls.specs.Numbers.{ran_code, run_numbers, RunNumbers};
 
 use backtrack::Ending;
 use cells::Cell;
-use reports::{report_check, report_write};
+use grammar::refusal::Refusal;
+use reports::{report, report_check, report_write};
 
 // The code of a run whose moves are spent.
 const SPENT: u32 = 10000;
@@ -18,24 +18,18 @@ const SPENT: u32 = 10000;
 // The code of a run that lacks a frame.
 const NO_FRAME: u32 = 10001;
 
-// Stores the three numbers of a run's ending, and returns 0; or 100 plus the number of a refusal.
-fn report_run(ending: Ending, out: &mut [u32; 3]) -> u32
-    requires { Fits ran_code (ended ending) }
-    ensures returns { result ≡ returned (ended ending) }
-    ensures reports { out.new ≡ reported run_numbers out.old (ended ending) }
+// The three numbers of a run's ending.
+fn numbers_of(ending: Ending) -> [u32; 3]
+    requires { ran_code (ending_says ending) ≤ 10001 }
+    ensures { result ≡ run_numbers (ending_says ending) }
 {
-    let three = match ending {
+    match ending {
         Ending::Success(end, moves) => [Cell::SUCCESS.0 + end, end, moves],
         Ending::Failure(moves) => [Cell::FAILURE.0, 0, moves],
         Ending::Missing(moves) => [Cell::MISSING.0, 0, moves],
         Ending::Spent(moves) => [SPENT, 0, moves],
         Ending::NoFrame(moves) => [NO_FRAME, 0, moves],
-        Ending::Refused(number, _) => {
-            return 100 + number;
-        }
-    };
-    *out = three;
-    0
+    }
 }
 
 // The machine's run on a variable at a position of the input, over lent frames. The answer: the outcome's code (5 + q for success ending at q,
@@ -52,7 +46,7 @@ pub fn test_run(
     ensures { RunNumbers sheet.now input.now variable position frames.old frames.new budget answer.old answer.new result }
 {
     let found = backtrack::run(sheet, input, variable, position, frames, budget);
-    report_run(found, answer)
+    report(found.map(numbers_of).map_err(Refusal::number), answer)
 }
 
 // The writer's question about a variable at a position of the input, over a lent table, a lent work slice and a lent output. The answer: the
