@@ -207,7 +207,7 @@ fn follows(
     requires { Sized variables input.now certificate.now n }
     ensures { result ≡ Rattle.checker.specs.Checker.follows (rule_in rules.now) variables input.now (earlier_line certificate.now n) (some (line_held line)) }
 {
-    if line.variable < 1 || variables < line.variable || input.len() < line.start as usize {
+    if !(1..=variables).contains(&line.variable) || input.len() < line.start as usize {
         return false;
     }
     states(line, result_by(rules, input, certificate, n, line))
