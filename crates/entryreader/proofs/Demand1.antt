@@ -21,6 +21,7 @@ use Rattle.schema.proofs.Following.{Follows}
 use Rattle.finish.specs.Reply.{Reply, told}
 use Rattle.memo.proofs.Following.{question_follows}
 use Rattle.verdict.specs.Verdict.{numbers, Judges}
+use Rattle.writer.specs.Writer.{told as wrote, lines_in}
 use Rattle.writer.proofs.Following.{write_follows}
 use Rattle.checker.specs.Checker.{check_condition, check_order, check}
 use Rattle.checker.proofs.CheckRefusals.{check_refused_exactly}
@@ -184,7 +185,7 @@ module _ (s input : List ℕ) (A p : ℕ) (table table' work work' answer answer
 
 module _ (s input : List ℕ) (A p : ℕ) (table table' work work' out out' answer answer' : List ℕ) (r : ℕ)
     (promise : WriterNumbers s input A p table table' work work' out out' answer answer' r) where
-  writer_as : Follows Reply s (writer_of input (A at p) (length table) (length work) (length out)) (told promise.found.answer)
+  writer_as : Follows Reply s (writer_of input (A at p) (length table) (length work) (length out)) (wrote promise.found)
       ((table' ≡ table) × (work' ≡ work) × (out' ≡ out))
   writer_as = write_follows s input A p table table' work work' out out' promise.found promise.promise
 
@@ -199,7 +200,7 @@ module _ (s input : List ℕ) (A p : ℕ) (table table' work work' out out' answ
   -- and under a refusal table, work slice, output and answer are as they were.
   pub write_unchanged : r ≢ 0 → (table' ≡ table) × (work' ≡ work) × (out' ≡ out) × (answer' ≡ answer)
   write_unchanged d =
-      let k = follows_unchanged writer_as promise.returns (writer_numbers promise.found.lines) answer answer' promise.reports d in
+      let k = follows_unchanged writer_as promise.returns (writer_numbers (lines_in promise.found)) answer answer' promise.reports d in
       (k.0.0, k.0.1, k.0.2, k.1)
 
 -- ---- The checker.

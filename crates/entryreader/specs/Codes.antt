@@ -1,5 +1,5 @@
 -- The numbers that the exported calls hand over. Assumes nothing.
-use Rattle.std.specs.Prelude.{cond, List, [], ◌∷◌, ◌≡◌, ℕ, suc, ◌+◌, eqb, length, get_or, Result}
+use Rattle.std.specs.Prelude.{cond, List, [], ◌∷◌, ◌≡◌, ℕ, ◌+◌, eqb, length, get_or, Result}
 use Rattle.grammar.specs.Refusal.{Checked, refused, accepted}
 use Rattle.grammar.specs.Promise.{line_one, stored}
 use Rattle.grammar.specs.declared.refusal.Refusal.{Refusal}

@@ -4,6 +4,7 @@
 ghost use Rattle.std.specs.Prelude.{◌≤◌, ◌≡◌, Ok};
 ghost use Rattle.schema.specs.Exported.{returned};
 ghost use Rattle.grammar.specs.Promise.{told as read};
+ghost use Rattle.archive.specs.Archive.{told as moves};
 ghost use Rattle.opening.specs.Opening.{least_of};
 ghost use Rattle.verdict.specs.Verdict.{numbers};
 ghost use Rattle.reports.specs.Numbers.{WriterNumbers, CheckNumbers};
@@ -180,7 +181,10 @@ pub fn entryreader_shorthand(text: &[u8], out: &mut [u8], answer: &mut [u32; 1])
     ensures { ShorthandNumbers text.now out.old out.new answer.old answer.new result }
 {
     let compiled = shorthand::compile(text, out);
-    report(compiled.map(length_numbers).map_err(Refusal::number), answer)
+    report(
+        compiled.map(length_numbers).map_err(Refusal::number),
+        answer,
+    )
 }
 
 // 1 and the least number of bytes, or 0 and 0 where there is none.
@@ -208,12 +212,19 @@ pub fn entryreader_opening(
     report(found.map(opening_numbers).map_err(Refusal::number), answer)
 }
 
+// 0, or 100 plus the number of a refusal.
+fn report_stored(stored: Result<(), Refusal>) -> u32
+    ensures { result ≡ returned (moves stored) }
+{
+    code(stored.map(|()| 0).map_err(Refusal::number))
+}
+
 // Stores a table of so many variables, of an input of so many bytes, by position: 0, or 100 plus the number of a refusal, with nothing changed.
 pub fn entryreader_store(variables: u32, length: u32, table: &[u32], stored: &mut [u32]) -> u32
     ensures { StoreNumbers variables length table.now stored.old stored.new result }
 {
     let found = archive::store(variables, length, table, stored);
-    code(found.map(|()| 0).map_err(Refusal::number))
+    report_stored(found)
 }
 
 // Restores a table that was stored by position: 0, or 100 plus the number of a refusal, with nothing changed.
@@ -221,5 +232,5 @@ pub fn entryreader_restore(variables: u32, length: u32, stored: &[u32], table: &
     ensures { RestoreNumbers variables length stored.now table.old table.new result }
 {
     let found = archive::restore(variables, length, stored, table);
-    code(found.map(|()| 0).map_err(Refusal::number))
+    report_stored(found)
 }

@@ -35,7 +35,7 @@ pub fn report<const N: usize>(answer: Result<[u32; N], u32>, out: &mut [u32; N])
             *out = numbers;
             0
         }
-        Err(number) => 100 + number,
+        Err(number) => code(Err(number)),
     }
 }
 
@@ -103,5 +103,8 @@ pub fn report_check(
     ensures { CheckNumbers sheet.now input.now variable position reading.now answer.old answer.new result }
 {
     let found = checker::check(sheet, input, variable, position, reading);
-    report(found.map(numbers_of_claim).map_err(Rejection::number), answer)
+    report(
+        found.map(numbers_of_claim).map_err(Rejection::number),
+        answer,
+    )
 }

@@ -1,4 +1,3 @@
-use borrow.Author.Rules.{rules}
 use Rattle.entryreader.proofs.entryreader_check.Goals as goal
 
 pub returns : goal.returns

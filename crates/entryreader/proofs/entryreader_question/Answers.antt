@@ -1,9 +1,12 @@
+use mathlib.Core.Path.{subst}
+use Rattle.schema.specs.Exported.{Fits}
+use Rattle.finish.specs.Reply.{told}
+use Rattle.reports.specs.Numbers.{reply_code}
 use Rattle.entryreader.proofs.Reported.{answer_fits}
-use borrow.Author.Rules.{rules}
 use Rattle.entryreader.proofs.entryreader_question.Goals as goal
 
-pub report-requires : goal.report-requires
-report-requires c =
+pub map-requires : goal.map-requires
+map-requires c =
     let a = c.args in
     let q = c.question-found in
-    answer_fits a.sheet.now a.input.now a.variable a.position a.table.now q.new.table a.work.now q.new.work q.result q.ensures
+    λ x e. subst (λ r. Fits reply_code (told r)) e (answer_fits a.sheet.now a.input.now a.variable a.position a.table.now q.new.table a.work.now q.new.work q.result q.ensures)

@@ -1,4 +1,3 @@
-use borrow.Author.Rules.{rules}
 use Rattle.entryreader.proofs.entryreader_write.Goals as goal
 
 pub returns : goal.returns

@@ -2,8 +2,7 @@ use mathlib.Core.Path.{subst}
 use Rattle.schema.specs.Exported.{Fits}
 use Rattle.checker.specs.Checker.{told}
 use Rattle.reports.specs.Numbers.{claim_code}
-use Rattle.reports.proofs.Fitting.{check_fits, check_numbers}
-use borrow.Author.Rules.{rules}
+use Rattle.reports.proofs.Fitting.{check_fits}
 use Rattle.reports.proofs.report_check.Goals as goal
 
 pub map-requires : goal.map-requires

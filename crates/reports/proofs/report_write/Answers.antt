@@ -3,7 +3,6 @@ use Rattle.schema.specs.Exported.{Fits}
 use Rattle.writer.specs.Writer.{told}
 use Rattle.reports.specs.Numbers.{reply_code}
 use Rattle.reports.proofs.Fitting.{writer_fits}
-use borrow.Author.Rules.{rules}
 use Rattle.reports.proofs.report_write.Goals as goal
 
 pub map-requires : goal.map-requires

@@ -1,4 +1,3 @@
-use borrow.Author.Rules.{rules}
 use Rattle.test_calls.proofs.test_write.Goals as goal
 
 pub returns : goal.returns
