@@ -1,28 +1,35 @@
 -- No byte lies in two of the ranges, by one test that antt computes; so each byte of a range has its class, wherever the range stands in the list. Assumes
 -- nothing.
 use mathlib.Core.Bool.{Bool, true, false, cond, ◌&&◌, and-eq-true_iff}
-use mathlib.Core.List.{List, [], ◌∷◌, Mem, Memᴰ}
+use mathlib.Core.List.{List, [], ◌∷◌, map, Mem, Memᴰ}
 use mathlib.Core.Logic.{∥∥₁_elim}
-use mathlib.Core.Path.{◌≡◌, refl, sym, ap, subst}
-use Prim.Native.Nat.{ℕ, suc, ◌<◌, ◌≤◌}
+use mathlib.Core.Path.{◌≡◌, refl, sym, ap, subst, ◌∙◌}
+use Prim.Native.Nat.{ℕ, suc, ◌≤◌}
 use native.Mathlib.Nat.{ℕ_set}
 use native.Mathlib.Omega.{arith}
 use lib.Dec.{leb}
-use lib.ListN.{replicate}
+use lib.ListN.{get_or, replicate}
 use borrow.Author.Tests.{leb-true, le-leb}
+use Rattle.std.proofs.lemmas.List.{get_or-replicate}
+use Rattle.std.proofs.lemmas.List.FromFn.{get_or-map-range_with_len}
+use Rattle.std.specs.List.{range_with_len}
 use Rattle.classes.specs.Class.{Range, range, ranges, class_in, class_of}
 use Rattle.classes.specs.Disjoint.{holding, Disjoint}
-use Rattle.classes.proofs.ClassTable.{at}
 
 -- The test of a byte: one range holds it at most.
-once : ℕ → ℕ → Bool
-once b x = leb (holding ranges b) 1
+once : ℕ → Bool
+once b = leb (holding ranges b) 1
+
+each : map once (range_with_len 0 256) ≡ replicate 256 true
+unfolding once holding
+each = refl
 
 pub ranges_disjoint : Disjoint ranges
-unfolding once holding
+unfolding once
 ranges_disjoint b h =
-    let below : b < 256 = omega arith in
-    leb-true (holding ranges b) 1 (at once (replicate 256 0) b refl below)
+    leb-true (holding ranges b) 1
+    (sym (get_or-map-range_with_len once 0 256 b b true (omega arith) (omega arith)) ∙ ap (λ (t : List Bool). get_or t b true) each
+    ∙ get_or-replicate 256 b true true (omega arith))
 
 module _ (b low high class : ℕ) (l : low ≤ b) (h : b ≤ high) where
   -- The range holds the byte.

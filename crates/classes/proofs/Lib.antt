@@ -1,3 +1,2 @@
 -- Laws of the classes of bytes.
-pub mod ClassTable
 pub mod Disjoint
