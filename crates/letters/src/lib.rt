@@ -13,22 +13,12 @@ struct Numbering {
     skip: u32,
 }
 
-// Is the byte a capital letter?
-fn is_capital(b: u8) -> bool
-    ensures { result ≡ capital b }
-{
-    if b < 65 {
-        return false;
-    }
-    b <= 90
-}
-
 // Gives a capital the next number, where it has none; how many letters have one then.
 fn number_letter(letter: u8, count: u32, numbers: &mut [u32; 26]) -> u32
     requires { (capital letter ≡ true) × (count ≤ 26) }
     ensures { Adds letter numbers.old count numbers.new result }
 {
-    let index = letter as usize - 65;
+    let index = (letter - b'A') as usize;
     if numbers[index] != 0 {
         return count;
     }
@@ -41,21 +31,19 @@ fn number_byte(b: u8, from: Numbering, numbers: &mut [u32; 26]) -> Numbering
     requires { from.count ≤ 26 }
     ensures { Passes b from numbers.old result numbers.new }
 {
-    let count = from.count;
-    let skip = from.skip;
+    let Numbering { count, skip } = from;
     if 0 < skip {
         return Numbering {
             count,
             skip: skip - 1,
         };
     }
-    if b == 39 {
+    if b == b'\'' {
         return Numbering { count, skip: 2 };
     }
-    if is_capital(b) {
-        let more = number_letter(b, count, numbers);
+    if b.is_ascii_uppercase() {
         return Numbering {
-            count: more,
+            count: number_letter(b, count, numbers),
             skip: 0,
         };
     }
@@ -68,10 +56,8 @@ pub fn number_letters(text: &[u8], numbers: &mut [u32; 26]) -> u32
     ensures { Numbers (firsts [] (capitals text.now)) numbers.new result }
 {
     let mut from = Numbering { count: 0, skip: 0 };
-    let mut at: usize = 0;
-    while at < text.len() {
-        from = number_byte(text[at], from, numbers);
-        at += 1;
+    for b in text {
+        from = number_byte(*b, from, numbers);
     }
     from.count
 }

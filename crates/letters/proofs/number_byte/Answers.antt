@@ -8,16 +8,16 @@ returns-then-skip-gt0 c = passes_over c.args.b c.args.from c.if-skip-gt0.true
 pub returns-then-b-eq39 : goal.returns-then-b-eq39
 returns-then-b-eq39 c = passes_quote c.args.b c.args.from c.if-skip-gt0.false c.if-b-eq39.true
 
-pub number_letter-more-requires : goal.number_letter-more-requires
-number_letter-more-requires c = (sym c.is_capital.ensures ∙ c.if-is_capital.true, c.requires)
+pub number_letter-requires : goal.number_letter-requires
+number_letter-requires c = (sym c.is_ascii_uppercase.ensures.value ∙ c.if-is_ascii_uppercase.true, c.requires)
 
-pub returns-then-is_capital : goal.returns-then-is_capital
-returns-then-is_capital c =
+pub returns-then-is_ascii_uppercase : goal.returns-then-is_ascii_uppercase
+returns-then-is_ascii_uppercase c =
     let a = c.args in
     passes_letter a.b a.from c.if-skip-gt0.false c.if-b-eq39.false
-    (sym c.is_capital.ensures ∙ c.if-is_capital.true) c.number_letter-more.ensures
+    (sym c.is_ascii_uppercase.ensures.value ∙ c.if-is_ascii_uppercase.true) c.number_letter.ensures
 
 pub returns : goal.returns
 returns c =
     let a = c.args in
-    passes_other a.b a.from c.if-skip-gt0.false c.if-b-eq39.false (sym c.is_capital.ensures ∙ c.if-is_capital.false)
+    passes_other a.b a.from c.if-skip-gt0.false c.if-b-eq39.false (sym c.is_ascii_uppercase.ensures.value ∙ c.if-is_ascii_uppercase.false)
