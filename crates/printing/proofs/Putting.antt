@@ -1,19 +1,21 @@
 -- Bytes put into an output, one part after another. Assumes nothing.
 use mathlib.Core.Bool.{Bool, true, false}
 use mathlib.Core.List.{List, [], ◌++◌, append_assoc}
-use mathlib.Core.Path.{◌≡◌, refl, sym, ap, ap₂, ◌∙◌}
+use mathlib.Core.Path.{◌≡◌, refl, sym, ap, ap₂, ◌∙◌, subst}
 use Prim.Native.Nat.{ℕ, suc, ◌+◌, ◌-◌, ◌*◌, ◌≤◌, ◌<◌}
 use native.Mathlib.Nat.{add-zero}
 use native.Mathlib.Omega.{arith}
-use lib.ListN.{length, take, drop, length-append, length-take, length-drop, take-append-drop}
+use lib.ListN.{length, get_or, take, drop, length-append, length-take, length-drop, take-append-drop}
 use lib.Seq.{take_at, drop_at, drop-drop}
 use Rattle.columns.specs.Column.{row}
 use Rattle.columns.proofs.Rows.{row_length}
 use Rattle.grammar.specs.Printing.{text, header_numbers, rule_numbers, rule_rows, printed, is_absent, rules_from, rules_of}
 use Rattle.grammar.specs.Rule.{Rule, absent, always, never, byte, class, call}
+use Rattle.grammar.specs.Words.{rule_for, rule_in}
 use borrow.Rule.Slice.PartMut.{put_mid}
 use Rattle.rows.proofs.RowWriting.{part_put}
 use Rattle.printing.specs.Listing.{line_of, put, Puts, SheetPut}
+use Rattle.printing.proofs.Numbers.{rule_there}
 
 -- No bytes.
 pub put_none : (at : ℕ) (out : List ℕ) → put at [] out ≡ out
@@ -135,6 +137,14 @@ module _ (rule : ℕ → Rule) (variables : ℕ) where
       let w : put at (text (rule_rows (rules_from rule 0 variable))) out ≡ put 26 (text (rule_rows (rules_from rule variables 1))) out₀ = ap (λ (x : ℕ). put at (text (rule_rows (rules_from rule x variable))) out) (sym z) ∙ h.whole in
       let e : at + length (text (rule_rows (rules_from rule 0 variable))) ≡ 26 + length (text (rule_rows (rules_from rule variables 1))) = ap (λ (x : ℕ). at + length (text (rule_rows (rules_from rule x variable)))) (sym z) ∙ h.end in
       record { bytes_are = sym (put_none at out) ∙ w; end_is = sym (add-zero at) ∙ e }
+
+-- The rule stands in its place in the array.
+pub goes_on_there : (ws : List ℕ) (variables : ℕ) (out₀ out out' : List ℕ) (at at' variable : ℕ) → variable ≤ variables
+    → Left (rule_in ws) variables out₀ out at variable → Puts at (line_of variable (rule_for (get_or ws (variable - 1) 0))) out out' at'
+    → Left (rule_in ws) variables out₀ out' at' (variable + 1)
+goes_on_there ws variables out₀ out out' at at' variable l h p =
+    goes_on (rule_in ws) variables out₀ out out' at at' variable l h
+    (subst (λ (r : Rule). Puts at (line_of variable r) out out' at') (rule_there ws variable h.low) p)
 
 -- Line 1 and the lines behind it.
 pub sheet_put : (v start endmarker : ℕ) (rule : ℕ → Rule) (out line out' : List ℕ) (r : ℕ) → 26 ≤ length out → line ≡ row 5 (header_numbers v start endmarker)

@@ -52,10 +52,8 @@ fn put_rules(variables: u32, rules: &Rules, out: &mut [u8]) -> usize
     ensures { Puts 26 (text (rule_rows (rules_of variables (rule_in rules.now)))) out.old out.new result }
 {
     let mut at: usize = 26;
-    let mut variable: u32 = 1;
-    while variable <= variables {
+    for variable in 1..=variables {
         at = put_rule(out, at, variable, rules[variable as usize - 1]);
-        variable += 1;
     }
     at
 }

@@ -2,7 +2,6 @@ use mathlib.Core.Path.{◌≡◌, refl, ◌∙◌}
 use Prim.Native.Nat.{◌/◌}
 use native.Mathlib.Omega.{arith}
 use lib.ListN.{length, length-take, length-drop}
-use borrow.Author.Rules.{rules}
 use Rattle.grammar.specs.Words.{rule_for}
 use Rattle.printing.proofs.Numbers.{none_low, none_high, some_rule}
 use Rattle.printing.proofs.Putting.{puts_none, puts_line}

@@ -1,7 +1,6 @@
 use mathlib.Core.Path.{refl, ap, ◌∙◌}
 use Prim.Native.Nat.{◌/◌}
 use native.Mathlib.Omega.{arith}
-use borrow.Author.Rules.{rules}
 use Rattle.columns.specs.Column.{row}
 use Rattle.printing.proofs.Numbers.{calls, none_taken, one_taken}
 use Rattle.printing.proofs.write_rule.Goals as goal

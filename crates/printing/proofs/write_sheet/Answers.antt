@@ -1,7 +1,6 @@
 use native.Mathlib.Omega.{arith}
 use Rattle.grammar.specs.Words.{rule_in}
 use Rattle.printing.proofs.Putting.{sheet_put}
-use borrow.Author.Rules.{rules}
 use Rattle.printing.proofs.write_sheet.Goals as goal
 
 pub returns : goal.returns
