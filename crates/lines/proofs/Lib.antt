@@ -1,3 +1,2 @@
--- Why what is next is so, and the line of a result.
+-- Why what is next is so.
 pub mod Turning
-pub mod LineFields

@@ -1,35 +1,31 @@
 -- What is next at a pair, by the numbers that the work slice holds for the pairs that it calls. Assumes nothing.
 use mathlib.Core.Bool.{true≢false}
-use mathlib.Core.Path.{◌≡◌, refl, sym, ap, ◌∙◌, subst}
-use mathlib.Core.List.{List, [], ◌∷◌}
+use mathlib.Core.Path.{◌≡◌, refl, subst}
+use mathlib.Core.List.{List}
 use mathlib.Core.Logic.{inl, inr, ◌≢◌}
-use Prim.Native.Nat.{ℕ, ◌-◌, ◌/◌, ◌≤◌, ◌<◌}
+use Prim.Native.Nat.{ℕ, ◌≤◌, ◌<◌}
 use native.Mathlib.Omega.{arith}
-use types.Run.{OneOf}
-use denote.Enum.Declared.{tag_of}
 use lib.ListN.{length}
 use Rattle.grammar.specs.Rule.{Rule}
 use Rattle.rules.specs.Act.{told}
 use Rattle.rules.specs.declared.Act.{Act}
 use Rattle.rules.specs.declared.Act.TheVariants as code
-use Rattle.schema.specs.Cells.{held_at, HasCell}
 use Rattle.schema.specs.Closed.{Variable}
-use Rattle.schema.specs.Derivation.{Pair, ◌at◌, Result, success, failure, calls, act, second}
+use Rattle.schema.specs.Derivation.{◌at◌, Result, calls, act, second}
 use Rattle.schema.specs.Table.{cell, cells, held}
-use Rattle.rules.specs.contracts.Act as declared
 use Rattle.schema.proofs.Cell.{cell_below}
 use Rattle.schema.proofs.Closed.{calls_call}
 use Rattle.step.specs.Codes.{Settled}
-use Rattle.lines.specs.Turning.{number_of, CallsReady, TurnsSecond, TurnsCalls, Lower, to_first, to_second, of_calls, Turns, TurnReady}
+use Rattle.lines.specs.Turning.{CallsReady, TurnsCalls, Lower, to_first, to_second, of_calls, Turns, TurnReady}
 use Rattle.lines.specs.declared.Turn.{Turn}
 use Rattle.lines.specs.declared.Turn.TheVariants as turn
 
--- An act whose place among the cases is before the last is no call.
-pub not_calls : (a : Act) → OneOf (0 ∷ 1 ∷ 2 ∷ []) (tag_of declared.the_type a) → (B C D : ℕ) → told a ≢ calls B C D
+-- An act that is no call is told of none.
+pub not_calls : (a : Act) → ((b c d : ℕ) → a ≢ code.Calls b c d) → (B C D : ℕ) → told a ≢ calls B C D
 not_calls (code.Success q) k B C D e = true≢false (cc)
 not_calls code.Failure k B C D e = true≢false (cc)
 not_calls code.Missing k B C D e = true≢false (cc)
-not_calls (code.Calls E F G) k B C D e = elim k [ inl h ↦ omega arith | inr m ↦ elim m [ inl h ↦ omega arith | inr h ↦ omega arith ] ]
+not_calls (code.Calls b c d) k B C D e = k b c d refl
 
 -- What a number of the work slice asks.
 pub cell_in : (v n : ℕ) (L : List ℕ) (X q : ℕ) → v ≤ 256 → n ≤ 4096 → cells v n ≤ length L → Variable v X → q ≤ n
@@ -38,47 +34,6 @@ cell_in v n L X q few short room i l =
     let below = cell_below v n (X at q) (record { variable = i; position = l }) in
     let h = i.1 in
     (i.0, omega arith, short, l, omega arith)
-
-module _ {n p b c d : ℕ} {T W : List ℕ} (r : CallsReady n p b c d T W) where
-  -- The cell of a called pair in the work slice.
-  pub number_cell : (X q : ℕ) → Variable r.variables X → q ≤ n → (1 ≤ X) × (X ≤ 256) × (n ≤ 4096) × (q ≤ n) × (cell n (X at q) < length W)
-  number_cell X q i l = cell_in r.variables n W X q r.few r.short r.work_room i l
-
-  -- That of b in the table.
-  pub first_cell : {i : ℕ} → i ≡ cell n (b at p) → HasCell T i
-  first_cell e =
-      let k = cell_below r.variables n (b at p) (record { variable = r.b_in; position = r.position_in }) in
-      let m = r.room in
-      omega arith
-
-  module _ {f i : ℕ} (e : f ≡ held_at T i) (j : i ≡ cell n (b at p)) where
-    found : held n T (b at p) ≡ f
-    found = ap (λ (k : ℕ). held_at T k) (sym j) ∙ sym e
-
-    -- b did not fail: its code is that of an end, a position of the input.
-    pub ends : f ≢ 1 → (5 ≤ f) × (f - 5 ≤ n)
-    ends d = go r.found r.first
-      where
-        go : (t : Result) → Settled n (held n T (b at p)) t → (5 ≤ f) × (f - 5 ≤ n)
-        go (success q) m = let g = found in let h = m.code_is in let k = m.ends in (omega arith, omega arith)
-        go failure m = absurd (d (sym found ∙ m.code_is))
-
-    -- Its second pair, where it failed,
-    pub after_failure : f ≡ 1 → (t : Result) → Settled n (held n T (b at p)) t → second c d p t ≡ d at p
-    after_failure q (success a) m = let z = found in let k = m.code_is in absurd (omega arith)
-    after_failure q failure m = refl
-
-    -- and where it succeeded.
-    pub after_success : f ≢ 1 → (t : Result) → Settled n (held n T (b at p)) t → second c d p t ≡ c at (f - 5)
-    after_success q (success a) m = let z = found in let k = m.code_is in let l : a ≡ f - 5 = omega arith in ap (λ (u : ℕ). c at u) l
-    after_success q failure m = absurd (q (sym found ∙ m.code_is))
-
--- The first called pair has a line, and the second is looked at.
-pub then_second : (n : ℕ) (W : List ℕ) (y z u : Pair) (number : ℕ) (r : Turn) → number ≡ number_of n W y → number ≢ 0 → z ≡ u → TurnsSecond n W number u r
-    → TurnsCalls n W y z r
-then_second n W y z u number (turn.Down B q) e d s h = inr (λ k. d (e ∙ k), s ∙ h.0, ap (number_of n W) s ∙ h.1)
-then_second n W y z u number (turn.Line i j) e d s h =
-    (λ k. d (e ∙ k), λ k. h.0 (ap (number_of n W) (sym s) ∙ k), h.1 ∙ ap (λ (m : ℕ). m / 2) e, h.2 ∙ ap (λ (x : Pair). number_of n W x / 2) (sym s))
 
 module _ {rule : ℕ → Rule} {s : List ℕ} {v A p : ℕ} {T W : List ℕ} (q : TurnReady rule s v A p T W) where
   module _ {B C D : ℕ} (e : act rule s (A at p) ≡ calls B C D) where

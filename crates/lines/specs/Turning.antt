@@ -4,7 +4,6 @@ use Rattle.std.specs.Prelude.{List, ◌⊎◌, ◌≢◌, ◌≡◌, ℕ, ◌+�
 use Rattle.grammar.specs.Rule.{Rule}
 use Rattle.schema.specs.Closed.{Variable, Closed}
 use Rattle.schema.specs.Derivation.{Pair, ◌at◌, Result, calls, act, second}
-use Rattle.schema.specs.Line.{Line}
 use Rattle.schema.specs.Table.{Within, cell, cells, held}
 use Rattle.cells.specs.Packed.{packed}
 use Rattle.step.specs.Codes.{Settled}

@@ -15,6 +15,7 @@ use cells::{Caller, Cell, cell_number};
 use grammar::sheet::Rules;
 use rows::write_row;
 use rules::{Act, act_at};
+use std::mem::replace;
 
 // What is next at a pair: a pair that it calls and that has no line yet; or its own line, with the numbers of the lines of the pairs that it
 // calls, counted from 1, both 0 for a leaf.
@@ -138,7 +139,5 @@ pub fn note_line(n: usize, work: &mut [u32], x: Stand) -> u32
     ensures returns { result ≡ number_of n work.old (x.variable at x.position) }
 {
     let index = cell_number(n, x.variable, x.position);
-    let caller = work[index];
-    work[index] = 2 * (x.lines + 1);
-    caller
+    replace(&mut work[index], 2 * (x.lines + 1))
 }

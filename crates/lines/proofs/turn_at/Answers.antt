@@ -2,11 +2,10 @@ use mathlib.Core.Path.{sym, ap, ◌∙◌}
 use Rattle.rules.specs.Act.{told}
 use Rattle.lines.specs.Turning.{of_leaf}
 use Rattle.lines.proofs.Turning.{not_calls, calls_ready, turns_calls}
-use borrow.Enum.Refused.{opened}
 use Rattle.lines.proofs.turn_at.Goals as goal
 
 pub returns-in_default : goal.returns-in_default
-returns-in_default c = of_leaf (λ B C D e. not_calls c.act_at.result (opened c.in_default.in_default-own.keys2) B C D (c.act_at.ensures ∙ e))
+returns-in_default c = of_leaf (λ B C D e. not_calls c.act_at.result c.in_default.not-Calls B C D (c.act_at.ensures ∙ e))
 
 pub turn_calls-requires : goal.turn_calls-requires
 turn_calls-requires c =
