@@ -6,20 +6,20 @@ use native.Mathlib.Omega.{arith}
 use lib.ListN.{length, get_or, take, drop, length-append, drop_of_length-le}
 use lib.Seq.{take_all, take_at, drop_at, drop-drop}
 use borrow.Rule.Slice.PartMut.{put_mid, mid_of, post_of}
-use Rattle.std.specs.Prelude.{Result as Results}
+use Rattle.std.specs.Prelude.{Result as Results, Ok, Err}
 use Rattle.grammar.specs.declared.refusal.Refusal.{Refusal}
 use Rattle.verdict.specs.Verdict.{numbers}
 use Rattle.verdict.specs.declared.Judgement.{Judgement}
-use Rattle.verdict.specs.declared.Judgement.TheVariants.{Recognised, Partial, Failure, Loop, Missing, Refused}
+use Rattle.verdict.specs.declared.Judgement.TheVariants.{Recognised, Partial, Failure, Loop, Missing}
 
 -- The four numbers of a verdict, one by one.
 pub four_numbers : (j : Results Judgement Refusal) → get_or (numbers j) 0 0 ∷ get_or (numbers j) 1 0 ∷ get_or (numbers j) 2 0 ∷ get_or (numbers j) 3 0 ∷ [] ≡ numbers j
-four_numbers (Recognised q count) = refl
-four_numbers (Partial q count) = refl
-four_numbers (Failure count) = refl
-four_numbers (Loop A p count) = refl
-four_numbers (Missing A p count) = refl
-four_numbers (Refused number line) = refl
+four_numbers (Ok (Recognised q count)) = refl
+four_numbers (Ok (Partial q count)) = refl
+four_numbers (Ok (Failure count)) = refl
+four_numbers (Ok (Loop A p count)) = refl
+four_numbers (Ok (Missing A p count)) = refl
+four_numbers (Err e) = refl
 
 module _ (out line : List ℕ) (size : length line ≡ 33) where
   abbrev pub begun : List ℕ

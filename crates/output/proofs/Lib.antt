@@ -1,5 +1,4 @@
 -- Laws of the output.
-pub mod Start
 pub mod Accepting
 pub mod Printed
 pub mod Joined

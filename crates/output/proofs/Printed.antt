@@ -19,9 +19,9 @@ use Rattle.schema.proofs.Handed.{handed_sheet}
 use Rattle.schema.proofs.Laws.{has_one}
 use Rattle.schema.proofs.LineLength.{lines_length}
 use Rattle.schema.proofs.SheetClosed.{start_within}
-use Rattle.finish.specs.Reply.{reply, outcome_of, count_of, told}
+use Rattle.finish.specs.Reply.{reply, outcome_of, count_of}
 use Rattle.verdict.specs.Verdict.{numbers, judged, Judges, VerdictPromise}
-use Rattle.writer.specs.Writer.{Lines, Writes, SaysWriting, RepliesWriting}
+use Rattle.writer.specs.Writer.{Lines, Writes, SaysWriting, RepliesWriting, told, lines_in}
 use Rattle.verdict.specs.declared.Judgement.{Judgement}
 use Rattle.memo.proofs.Result.{count_is}
 use Rattle.output.specs.Output.{Printing, Writing, Certificate}
@@ -44,10 +44,10 @@ module _ (s input : List ℕ) (tables works : ℕ) (tables-are : tables ≡ 2048
       ∙ ap (λ (k : ℕ). handed s (writer_of input (g.start at 0) 2048 k (length o))) (w.work_length ∙ works-are)
       ∙ writer_accepted s input g h (length o) room
 
-  said : SaysWriting g.rule g.variables input (w.start at 0) w.table w.table' w.work w.work' o o' (told w.written.answer) w.written.lines
+  said : SaysWriting g.rule g.variables input (w.start at 0) w.table w.table' w.work w.work' o o' (told w.written) (lines_in w.written)
   said =
       subst (λ (c : Checked Grammar).
-      RepliesWriting c input (w.start at 0) w.table w.table' w.work w.work' o o' (told w.written.answer) w.written.lines) accepts w.promise
+      RepliesWriting c input (w.start at 0) w.table w.table' w.work w.work' o o' (told w.written) (lines_in w.written)) accepts w.promise
 
   start_lines : (q : Outcome) → Has g.rule input (g.start at 0) q → Writes g.rule input (g.start at 0) q o o' count
   start_lines q d =

@@ -1,16 +1,17 @@
 -- Document 01, "Program `readentry`": its output. Assumes nothing.
-use Rattle.std.specs.Prelude.{Bool, true, false, List, ◌++◌, ◌≢◌, ◌≡◌, ℕ, ltb, length, drop}
+use Rattle.std.specs.Prelude.{Bool, true, false, List, ◌++◌, ◌≢◌, ◌≡◌, ℕ, ltb, length, drop, Result as Results}
 use Rattle.columns.specs.Column.{row}
 use Rattle.grammar.specs.Refusal.{Checked, refused, accepted}
 use Rattle.grammar.specs.Rule.{Rule}
 use Rattle.grammar.specs.Sheet.{Grammar, sheet}
+use Rattle.grammar.specs.declared.refusal.Refusal.{Refusal}
 use Rattle.schema.specs.Derivation.{Pair, ◌at◌, Outcome, Has}
 use Rattle.schema.specs.Handed.{handed, verdict_of}
 use Rattle.schema.specs.Line.{Line, lines_bytes}
 use Rattle.schema.specs.Reached.{Reached, Named, Number}
 use Rattle.finish.specs.Reply.{reply}
 use Rattle.verdict.specs.Verdict.{judged}
-use Rattle.writer.specs.Writer.{Lines, WriterPromise}
+use Rattle.writer.specs.Writer.{Lines, lines_in, WriterPromise}
 use Rattle.writer.specs.declared.Written.{Written}
 
 -- The output for an answer about x: "Its first line has four fields of 8: code .., named variable or refusal number, place .., cells";
@@ -60,9 +61,9 @@ pub record Writing (s input : List ℕ) (tables works : ℕ) (out out' : List �
   pub work' : List ℕ
   pub table_length : length table ≡ tables
   pub work_length : length work ≡ works
-  pub written : Written
+  pub written : Results Written Refusal
   pub promise : WriterPromise s input start 0 table table' work work' out out' written
-  pub counts : r ≡ written.lines
+  pub counts : r ≡ lines_in written
 
 -- Nothing after a refusal.
 pub record Certificate (s input : List ℕ) (code tables works : ℕ) (out out' : List ℕ) (r : ℕ) : Type 0 where

@@ -4,23 +4,22 @@
 ghost use Rattle.std.specs.Prelude.{length};
 ghost use Rattle.output.specs.Output.{StartOf, Certificate, OutputPromise};
 
-use grammar::sheet::{Sheet, read_sheet};
+use grammar::sheet::read_sheet;
 use rows::write_row;
 use verdict::numbers_of;
 use writer::write;
 
 pub mod program;
 
+// The code of a verdict that is refused.
+const REFUSED: u32 = 9;
+
 // The start variable of a sheet; 0 where the sheet is refused.
 fn start_of(sheet: &[u8]) -> u32
     ensures { StartOf sheet.now result }
 {
     let mut rules = [0u32; 256];
-    let read = read_sheet(sheet, &mut rules);
-    match read {
-        Sheet::Read(grammar) => grammar.start,
-        Sheet::Refused(_, _) => 0,
-    }
+    read_sheet(sheet, &mut rules).map_or(0, |grammar| grammar.start)
 }
 
 // Writes the certificate of a verdict that is not refused; the count of its lines.
@@ -34,12 +33,12 @@ fn certificate(
 ) -> u32
     ensures { Certificate sheet.now input.now code (length table.old) (length work.old) out.old out.new result }
 {
-    if code == 9 {
+    if code == REFUSED {
         return 0;
     }
     let start = start_of(sheet);
     let written = write(sheet, input, start, 0, table, work, out);
-    written.lines
+    written.map_or(0, |written| written.lines)
 }
 
 // Writes the output of the program for a sheet and an input, and gives its length. A slice of under 33 + 50,176 bytes is left as it is.

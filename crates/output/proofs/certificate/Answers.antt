@@ -18,6 +18,6 @@ returns c =
         work_length = refl;
         written = c.write-written.result;
         promise = c.write-written.ensures;
-        counts = refl;
+        counts = search rules;
       };
     }
