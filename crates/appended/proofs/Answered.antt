@@ -7,9 +7,9 @@ use native.Mathlib.Omega.{arith}
 use lib.ListN.{length, length-append}
 use borrow.Author.Tests.{le-ltb}
 use Rattle.std.specs.Prelude.{Result as Results}
-use Rattle.grammar.specs.declared.refusal.Refusal.{Refusal}
 use Rattle.grammar.specs.Refusal.{Checked, refused, accepted}
 use Rattle.grammar.specs.Sheet.{Grammar, sheet}
+use Rattle.grammar.specs.declared.refusal.Refusal.{Refusal}
 use Rattle.grammar.proofs.Fitting.{within_both}
 use Rattle.schema.specs.Derivation.{Pair, ◌at◌, Outcome, Has}
 use Rattle.schema.specs.Handed.{Handed, handed, asked, question_of}

@@ -8,10 +8,10 @@ use native.Mathlib.Decide.{ℕ_discrete}
 use native.Mathlib.Omega.{arith}
 use lib.ListN.{length}
 use Rattle.std.specs.Prelude.{Result as Results}
-use Rattle.grammar.specs.declared.refusal.Refusal.{Refusal}
 use Rattle.grammar.specs.Refusal.{accepted}
 use Rattle.grammar.specs.Rule.{Rule}
 use Rattle.grammar.specs.Sheet.{Grammar}
+use Rattle.grammar.specs.declared.refusal.Refusal.{Refusal}
 use Rattle.schema.specs.Closed.{Closed}
 use Rattle.schema.specs.Derivation.{Pair, ◌at◌, Result, calls, act, second, Outcome, result, stopped, loop, Has}
 use Rattle.schema.specs.Examined.{Examines, leaf, node, Reaches}

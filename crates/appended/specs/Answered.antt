@@ -1,9 +1,8 @@
 -- Document 02, orders 3 and 11, "Text added at the end": what the calls say again, of any results that meet their contracts. Assumes nothing.
-use Rattle.std.specs.Prelude.{Result as Results}
-use Rattle.grammar.specs.declared.refusal.Refusal.{Refusal}
-use Rattle.std.specs.Prelude.{List, ◌++◌, ◌≡◌, ℕ, ◌*◌, ◌≤◌, length}
+use Rattle.std.specs.Prelude.{List, ◌++◌, ◌≡◌, ℕ, ◌*◌, ◌≤◌, length, Result as Results}
 use Rattle.grammar.specs.Refusal.{accepted}
 use Rattle.grammar.specs.Sheet.{Grammar}
+use Rattle.grammar.specs.declared.refusal.Refusal.{Refusal}
 use Rattle.schema.specs.Derivation.{◌at◌, Outcome}
 use Rattle.schema.specs.Handed.{handed, asked, question_of}
 use Rattle.schema.specs.Machine.{says, ran}

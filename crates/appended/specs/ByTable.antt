@@ -1,9 +1,8 @@
 -- Document 02, order 11: whether an outcome comes again is read off the table that the question left. Assumes nothing.
-use Rattle.std.specs.Prelude.{Result as Results}
-use Rattle.grammar.specs.declared.refusal.Refusal.{Refusal}
-use Rattle.std.specs.Prelude.{List, ◌++◌, ◌↔◌, ◌≡◌, ℕ, ◌≤◌, length}
+use Rattle.std.specs.Prelude.{List, ◌++◌, ◌↔◌, ◌≡◌, ℕ, ◌≤◌, length, Result as Results}
 use Rattle.grammar.specs.Refusal.{accepted}
 use Rattle.grammar.specs.Sheet.{Grammar}
+use Rattle.grammar.specs.declared.refusal.Refusal.{Refusal}
 use Rattle.schema.specs.Derivation.{◌at◌, Result, result}
 use Rattle.schema.specs.Table.{Within, reach}
 use Rattle.finish.specs.Reply.{Reply, outcome_of, SaysSame, told}
