@@ -8,10 +8,10 @@ use native.Mathlib.Omega.{arith}
 use lib.Dec.{eqb, ltb}
 use lib.ListN.{length, set, length-set}
 use Rattle.std.specs.Prelude.{Result as Results}
-use Rattle.grammar.specs.declared.refusal.Refusal.{Refusal}
 use Rattle.grammar.specs.Printing.{text}
 use Rattle.grammar.specs.Refusal.{accepted, checked, from}
 use Rattle.grammar.specs.Sheet.{Grammar, grammar_of, condition}
+use Rattle.grammar.specs.declared.refusal.Refusal.{Refusal}
 use Rattle.grammar.proofs.Accepted.{describes}
 use Rattle.schema.specs.Cases.{Case, cases, first_pair, sheet_h}
 use Rattle.schema.specs.Derivation.{Pair, ◌at◌, success, result}

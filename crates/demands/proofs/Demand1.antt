@@ -8,11 +8,10 @@ use Prim.Native.Nat.{ℕ}
 use native.Mathlib.Omega.{arith}
 use lib.ListN.{length}
 use Rattle.std.specs.Prelude.{Result as Results, Ok, Err}
-use Rattle.grammar.specs.declared.refusal.Refusal.{Refusal}
-use Rattle.checker.specs.declared.Rejection.{Rejection}
 use Rattle.grammar.specs.Refusal.{Checked, refused, accepted}
 use Rattle.grammar.specs.Sheet.{Grammar}
 use Rattle.grammar.specs.Order.{FirstHolds}
+use Rattle.grammar.specs.declared.refusal.Refusal.{Refusal}
 use Rattle.schema.specs.Derivation.{Pair, ◌at◌}
 use Rattle.schema.specs.Handed.{handed, asked, verdict_of}
 use Rattle.schema.specs.Machine.{Ran}
@@ -27,6 +26,7 @@ use Rattle.backtrack.specs.declared.Ending.{Ending}
 use Rattle.checker.specs.Checker as checker
 use Rattle.checker.specs.Checker.{Checks, check_condition, check_order}
 use Rattle.checker.specs.declared.Claim.{Claim}
+use Rattle.checker.specs.declared.Rejection.{Rejection}
 use Rattle.checker.proofs.CheckRefusals.{check_refused_exactly}
 use Rattle.demands.specs.Demands.{verdict_told}
 

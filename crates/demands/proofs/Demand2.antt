@@ -7,23 +7,22 @@ use Prim.Native.Nat.{ℕ, ◌*◌, ◌-◌, ◌/◌, ◌≤◌}
 use lib.ListN.{length, take, drop}
 use lib.Seq.{take-append_seam}
 use Rattle.std.specs.Prelude.{Result as Results}
-use Rattle.grammar.specs.declared.refusal.Refusal.{Refusal}
-use Rattle.checker.specs.declared.Rejection.{Rejection}
 use Rattle.grammar.specs.Refusal.{Checked, accepted}
 use Rattle.grammar.specs.Sheet.{Grammar}
+use Rattle.grammar.specs.declared.refusal.Refusal.{Refusal}
 use Rattle.grammar.proofs.Accepted.{grammar_in_range}
 use Rattle.schema.specs.Derivation.{Pair, ◌at◌, Result, success, failure, Derives, Outcome, result, Has}
 use Rattle.schema.specs.Handed.{Handed, handed, asked, verdict_of, writer_of}
 use Rattle.schema.specs.Line.{Line, lines_bytes}
 use Rattle.schema.specs.Machine.{says, ran}
-use Rattle.schema.specs.Table.{Within, cells}
+use Rattle.schema.specs.Table.{Within}
 use Rattle.rules.proofs.Admitted.{question_accepted}
 use Rattle.schema.proofs.Handed.{handed_sheet, handed_input, handed_pair}
 use Rattle.schema.proofs.Laws.{number_one}
 use Rattle.schema.proofs.LineLength.{lines_length}
 use Rattle.schema.proofs.SheetClosed.{sheet_closed}
-use Rattle.finish.specs.Reply.{Reply, outcome_of, count_of, told}
-use Rattle.writer.specs.Writer.{Visits, Writes, SaysWriting, RepliesWriting, WriterPromise}
+use Rattle.finish.specs.Reply.{Reply, outcome_of, count_of}
+use Rattle.writer.specs.Writer.{Visits, Writes, SaysWriting, RepliesWriting, told, lines_in, WriterPromise}
 use Rattle.writer.specs.declared.Written.{Written}
 use Rattle.writer.proofs.LinesNumber.{lines_number}
 use Rattle.verdict.specs.Verdict.{numbers, judged, VerdictPromise}
@@ -36,6 +35,7 @@ use Rattle.backtrack.proofs.Call as machine
 use Rattle.checker.specs.Checker.{Claimed, told as passes, Checks}
 use Rattle.checker.specs.Proper.{Proper, claimed, Claims}
 use Rattle.checker.specs.declared.Claim.{Claim}
+use Rattle.checker.specs.declared.Rejection.{Rejection}
 use Rattle.checker.proofs.Call as checker
 use Rattle.demands.specs.Demands.{claimed_outcome}
 use Rattle.demands.proofs.Passing.{visit_proper}
@@ -72,11 +72,11 @@ verdict_derived s input table table' work work' r promise g e =
 -- The writer's outcome is the one that the pair has.
 pub written_derived : (s input : List ℕ) (A p : ℕ) (table table' work work' out out' : List ℕ) (r : Results Written Refusal) → WriterPromise s input A p table table' work work' out out' r
     → (g : Grammar) → handed s (writer_of input (A at p) (length table) (length work) (length out)) ≡ accepted g
-    → (a : Reply) × (told r.answer ≡ accepted a) × ((o : Outcome) → (outcome_of a ≡ o) ↔ Has g.rule input (A at p) o)
+    → (a : Reply) × (told r ≡ accepted a) × ((o : Outcome) → (outcome_of a ≡ o) ↔ Has g.rule input (A at p) o)
 written_derived s input A p table table' work work' out out' r promise g accepts =
     let call = writer_of input (A at p) (length table) (length work) (length out) in
     let wrote =
-    subst (λ (o : Checked Grammar). RepliesWriting o input (A at p) table table' work work' out out' (told r.answer) r.lines) accepts promise in
+    subst (λ (o : Checked Grammar). RepliesWriting o input (A at p) table table' work work' out out' (told r) (lines_in r)) accepts promise in
     let is =
     outcome_is s call g accepts (A at p) (handed_pair s call g accepts (A at p) refl) wrote.2 in
     (wrote.0, wrote.1, λ o. ((is o).1, (is o).0))
@@ -110,39 +110,39 @@ lines_pass s input A p g accepts t has ls visits c checks =
 module _ (s input : List ℕ) (A p : ℕ) (table table' work work' out out' : List ℕ) (r : Results Written Refusal)
     (promise : WriterPromise s input A p table table' work work' out out' r)
     (g : Grammar) (accepts : handed s (writer_of input (A at p) (length table) (length work) (length out)) ≡ accepted g)
-    (a : Reply) (answers : told r.answer ≡ accepted a) (t : Result) (succeeds : outcome_of a ≡ result t) where
+    (a : Reply) (answers : told r ≡ accepted a) (t : Result) (succeeds : outcome_of a ≡ result t) where
   abbrev call : Handed
   call = writer_of input (A at p) (length table) (length work) (length out)
 
-  wrote : SaysWriting g.rule g.variables input (A at p) table table' work work' out out' (told r.answer) r.lines
+  wrote : SaysWriting g.rule g.variables input (A at p) table table' work work' out out' (told r) (lines_in r)
   wrote =
-      subst (λ (o : Checked Grammar). RepliesWriting o input (A at p) table table' work work' out out' (told r.answer) r.lines) accepts promise
+      subst (λ (o : Checked Grammar). RepliesWriting o input (A at p) table table' work work' out out' (told r) (lines_in r)) accepts promise
 
   same : wrote.0 ≡ a
   same = let e = wrote.1 in cc
 
-  writes : Writes g.rule input (A at p) (result t) out out' r.lines
-  writes = subst (λ (o : Outcome). Writes g.rule input (A at p) o out out' r.lines) (ap outcome_of same ∙ succeeds) wrote.3
+  writes : Writes g.rule input (A at p) (result t) out out' (lines_in r)
+  writes = subst (λ (o : Outcome). Writes g.rule input (A at p) o out out' (lines_in r)) (ap outcome_of same ∙ succeeds) wrote.3
 
   within : Within g.variables (length input) A p
   within = handed_pair s call g accepts (A at p) refl
 
   -- There are as many lines as decided cells.
-  pub lines_are_cells : r.lines ≡ count_of a
+  pub lines_are_cells : lines_in r ≡ count_of a
   lines_are_cells =
       writes.counted ∙ number_one (lines_number g.rule input writes.ordered) (count_is s call g accepts (A at p) within wrote.2) ∙ ap count_of same
 
   has : Has g.rule input (A at p) (result t)
   has = (outcome_is s call g accepts (A at p) within wrote.2 (result t)).1 (ap outcome_of same ∙ succeeds)
 
-  reading_is : take (49 * r.lines) out' ≡ lines_bytes writes.lines
+  reading_is : take (49 * lines_in r) out' ≡ lines_bytes writes.lines
   reading_is =
       let ls = writes.lines in
-      let e : 49 * r.lines ≡ length (lines_bytes ls) = ap (λ (k : ℕ). 49 * k) writes.counted ∙ sym (lines_length ls) in
-      ap (take (49 * r.lines)) writes.written ∙ ap (λ (k : ℕ). take k (lines_bytes ls ++ drop (49 * length ls) out)) e ∙ take-append_seam (lines_bytes ls) (drop (49 * length ls) out)
+      let e : 49 * lines_in r ≡ length (lines_bytes ls) = ap (λ (k : ℕ). 49 * k) writes.counted ∙ sym (lines_length ls) in
+      ap (take (49 * lines_in r)) writes.written ∙ ap (λ (k : ℕ). take k (lines_bytes ls ++ drop (49 * length ls) out)) e ∙ take-append_seam (lines_bytes ls) (drop (49 * length ls) out)
 
   -- What was written, handed to the checker for the same question, passes, with the same outcome and end.
-  pub written_passes : (c : Results Claim Rejection) → Checks s input (A at p) (take (49 * r.lines) out') c → Claims c (A at p) t
+  pub written_passes : (c : Results Claim Rejection) → Checks s input (A at p) (take (49 * lines_in r) out') c → Claims c (A at p) t
   written_passes c checks =
       lines_pass s input A p g (question_accepted s call g A p accepts refl) t has writes.lines writes.ordered c
       (subst (λ (bytes : List ℕ). Checks s input (A at p) bytes c) reading_is checks)

@@ -5,10 +5,10 @@ use mathlib.Core.Path.{◌≡◌, refl, ap, ◌∙◌, subst}
 use Prim.Native.Nat.{ℕ, ◌*◌, ◌≤◌}
 use lib.ListN.{length}
 use Rattle.std.specs.Prelude.{Result as Results}
-use Rattle.grammar.specs.declared.refusal.Refusal.{Refusal}
 use Rattle.grammar.specs.Printing.{text}
 use Rattle.grammar.specs.Refusal.{accepted}
 use Rattle.grammar.specs.Sheet.{Grammar, grammar_of}
+use Rattle.grammar.specs.declared.refusal.Refusal.{Refusal}
 use Rattle.schema.specs.Cases.{Case, cases, sheet_h, header}
 use Rattle.schema.specs.Derivation.{Pair, ◌at◌, success, Outcome, result, loop, Has}
 use Rattle.schema.specs.Handed.{handed, asked, question_of}

@@ -5,14 +5,13 @@ use mathlib.Core.Path.{◌≡◌}
 use Prim.Native.Nat.{ℕ, ◌*◌, ◌-◌, ◌/◌, ◌≤◌}
 use lib.ListN.{length, take}
 use Rattle.std.specs.Prelude.{Result as Results, Option as Maybe}
-use Rattle.grammar.specs.declared.refusal.Refusal.{Refusal}
-use Rattle.checker.specs.declared.Rejection.{Rejection}
 use Rattle.schema.proofs.Following.{refused_exactly, then_unchanged}
 use Rattle.memo.proofs.Following.{question_follows}
 use Rattle.writer.proofs.Following.{write_follows}
 use Rattle.grammar.specs.Refusal.{refused, accepted}
 use Rattle.grammar.specs.Sheet.{Grammar}
 use Rattle.grammar.specs.Order.{FirstHolds}
+use Rattle.grammar.specs.declared.refusal.Refusal.{Refusal}
 use Rattle.schema.specs.Derivation.{Pair, ◌at◌, Result, Derives, Outcome, result, Has}
 use Rattle.schema.specs.Handed.{Refuses, handed, asked, question_of, verdict_of, writer_of}
 use Rattle.schema.specs.Machine.{says, ran}
@@ -28,7 +27,8 @@ use Rattle.archive.specs.Layout.{Layout}
 use Rattle.archive.specs.Refusals.{ArchiveRefuses}
 use Rattle.archive.specs.Archive.{Stored}
 use Rattle.archive.proofs.Promised as archived
-use Rattle.writer.specs.Writer.{WriterPromise}
+use Rattle.writer.specs.Writer as writer
+use Rattle.writer.specs.Writer.{lines_in, WriterPromise}
 use Rattle.finish.specs.declared.Answer.{Answer}
 use Rattle.verdict.specs.declared.Judgement.{Judgement}
 use Rattle.writer.specs.declared.Written.{Written}
@@ -38,6 +38,7 @@ use Rattle.checker.specs.Checker as checker
 use Rattle.checker.specs.Checker.{Claimed, Checks, check_condition, check_order}
 use Rattle.checker.specs.Proper.{Proper, Claims}
 use Rattle.checker.specs.declared.Claim.{Claim}
+use Rattle.checker.specs.declared.Rejection.{Rejection}
 use Rattle.demands.specs.Demands.{verdict_told, claimed_outcome, Demand3Question}
 use Rattle.demands.proofs.Demand1 as one
 use Rattle.demands.proofs.Demand2 as two
@@ -88,8 +89,8 @@ demand_1_run s input x frames frames' budget r promise y l =
 
 -- The writer.
 pub demand_1_write : (s input : List ℕ) (A p : ℕ) (table table' work work' out out' : List ℕ) (r : Results Written Refusal) → WriterPromise s input A p table table' work work' out out' r
-    → (x l : ℕ) → ((told r.answer ≡ refused x l) ↔ Refuses s (writer_of input (A at p) (length table) (length work) (length out)) x l)
-    × (told r.answer ≡ refused x l → (table' ≡ table) × (work' ≡ work) × (out' ≡ out))
+    → (x l : ℕ) → ((writer.told r ≡ refused x l) ↔ Refuses s (writer_of input (A at p) (length table) (length work) (length out)) x l)
+    × (writer.told r ≡ refused x l → (table' ≡ table) × (work' ≡ work) × (out' ≡ out))
 demand_1_write s input A p table table' work work' out out' r promise x l =
     let f = write_follows s input A p table table' work work' out out' r promise in
     (refused_exactly f x l, then_unchanged f x l)
@@ -121,7 +122,7 @@ demand_2_verdict = two.verdict_derived
 -- Document 01: "The writer asks the question as the engine does, with the same result". Its outcome is the one that the pair has.
 pub demand_2_written : (s input : List ℕ) (A p : ℕ) (table table' work work' out out' : List ℕ) (r : Results Written Refusal) → WriterPromise s input A p table table' work work' out out' r
     → (g : Grammar) → handed s (writer_of input (A at p) (length table) (length work) (length out)) ≡ accepted g
-    → (a : Reply) × (told r.answer ≡ accepted a) × ((o : Outcome) → (outcome_of a ≡ o) ↔ Has g.rule input (A at p) o)
+    → (a : Reply) × (writer.told r ≡ accepted a) × ((o : Outcome) → (outcome_of a ≡ o) ↔ Has g.rule input (A at p) o)
 demand_2_written = two.written_derived
 
 -- "The backtracking machine gives the outcome of a k-step derivation exactly when it is lent at least 2k - 1 moves and as many frames as the
@@ -139,8 +140,8 @@ demand_2_checker = two.checker_exactly
 -- "every reading we write passes", with the same outcome and end. For the reading in the program's output: proofs/Output.antt.
 pub demand_2_writer : (s input : List ℕ) (A p : ℕ) (table table' work work' out out' : List ℕ) (r : Results Written Refusal) → WriterPromise s input A p table table' work work' out out' r
     → (g : Grammar) → handed s (writer_of input (A at p) (length table) (length work) (length out)) ≡ accepted g
-    → (a : Reply) → told r.answer ≡ accepted a → (t : Result) → outcome_of a ≡ result t
-    → (c : Results Claim Rejection) → Checks s input (A at p) (take (49 * r.lines) out') c → Claims c (A at p) t
+    → (a : Reply) → writer.told r ≡ accepted a → (t : Result) → outcome_of a ≡ result t
+    → (c : Results Claim Rejection) → Checks s input (A at p) (take (49 * lines_in r) out') c → Claims c (A at p) t
 demand_2_writer = two.written_passes
 
 -- ---- Demand 3. "Take any question (sheet, entry, variable, place) that the table engine does not refuse, whatever its table and work slice held before."

@@ -7,10 +7,10 @@ use mathlib.Core.Path.{◌≡◌, refl, ap, ◌∙◌, subst}
 use Prim.Native.Nat.{ℕ, ◌+◌, ◌*◌, ◌≤◌, ◌<◌}
 use lib.ListN.{length}
 use Rattle.std.specs.Prelude.{Result as Results, Option as Maybe}
-use Rattle.grammar.specs.declared.refusal.Refusal.{Refusal}
 use Rattle.grammar.specs.Printing.{text}
 use Rattle.grammar.specs.Refusal.{Checked, refused, accepted}
 use Rattle.grammar.specs.Sheet.{Grammar, grammar_of}
+use Rattle.grammar.specs.declared.refusal.Refusal.{Refusal}
 use Rattle.grammar.proofs.Accepted.{describes}
 use Rattle.schema.specs.Cases.{Case, cases, first_pair}
 use Rattle.schema.specs.Derivation.{Pair, ◌at◌, Outcome}
@@ -29,7 +29,8 @@ use Rattle.verdict.specs.Verdict.{numbers, Judges, VerdictPromise}
 use Rattle.verdict.specs.declared.Judgement.{Judgement}
 use Rattle.opening.specs.Opening as opening
 use Rattle.opening.specs.Opening.{Finds, OpeningPromise}
-use Rattle.writer.specs.Writer.{RepliesWriting, WriterPromise}
+use Rattle.writer.specs.Writer as writer
+use Rattle.writer.specs.Writer.{RepliesWriting, lines_in, WriterPromise}
 use Rattle.writer.specs.declared.Written.{Written}
 use Rattle.kept.specs.Differs.{differs_elsewhere}
 use Rattle.kept.specs.Kept.{retained, Blank, KeptTable, blank, asked}
@@ -104,7 +105,7 @@ pub writer_kept : (s input : List ℕ) (A p : ℕ) (table table' work work' out 
     → (g : Grammar) → handed s (writer_of input (A at p) (length table) (length work) (length out)) ≡ accepted g → KeptTable g.rule g.variables input table'
 writer_kept s input A p table table' work work' out out' r promise g e =
     answers_kept (handed_pair s _ g e (A at p) refl)
-    (subst (λ (o : Checked Grammar). RepliesWriting o input (A at p) table table' work work' out out' (told r.answer) r.lines) e promise).2
+    (subst (λ (o : Checked Grammar). RepliesWriting o input (A at p) table table' work work' out out' (writer.told r) (lines_in r)) e promise).2
 
 pub opening_kept : (s input table table' work work' : List ℕ) (r : Results (Maybe ℕ) Refusal) → OpeningPromise s input table table' work work' r
     → (g : Grammar) → handed s (verdict_of input (length table) (length work)) ≡ accepted g → KeptTable g.rule g.variables input table'

@@ -10,7 +10,6 @@ use lib.ListN.{length, take, drop, length-append}
 use lib.Seq.{take_at, drop_at}
 use borrow.Author.Tests.{lt-ltb, le-ltb}
 use Rattle.std.specs.Prelude.{Result as Results}
-use Rattle.checker.specs.declared.Rejection.{Rejection}
 use Rattle.columns.specs.Column.{column, row, field, fields, cons_to}
 use Rattle.columns.proofs.Rows.{row_length, field_read, row_read}
 use Rattle.grammar.specs.Refusal.{Checked, refused, accepted}
@@ -30,6 +29,7 @@ use Rattle.writer.specs.Writer.{Lines}
 use Rattle.checker.specs.Checker.{Checks}
 use Rattle.checker.specs.Proper.{Claims}
 use Rattle.checker.specs.declared.Claim.{Claim}
+use Rattle.checker.specs.declared.Rejection.{Rejection}
 use Rattle.demands.proofs.Demand2.{lines_pass}
 use Rattle.output.specs.Output.{Printing, Puts, PutsWhere, OutputPromise}
 use Rattle.output.proofs.Accepting.{writer_accepted}

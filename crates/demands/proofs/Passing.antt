@@ -10,7 +10,7 @@ use Rattle.grammar.specs.Sheet.{Grammar}
 use Rattle.schema.specs.Closed.{Closed}
 use Rattle.schema.specs.Derivation as derivation
 use Rattle.schema.specs.Derivation.{Pair, ◌at◌, Result, success, failure, second, result, Has}
-use Rattle.schema.specs.Line.{Line, line, line_of, lines_bytes, numbered, Follows, by_leaf, by_call}
+use Rattle.schema.specs.Line.{Line, line_of, lines_bytes, numbered, Follows, by_leaf, by_call}
 use Rattle.schema.specs.Table.{Within}
 use Rattle.schema.proofs.Ends.{EndsWithin, derives_ends}
 use Rattle.schema.proofs.Walk.{walk_number, walk_count_le}

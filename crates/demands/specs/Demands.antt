@@ -1,10 +1,9 @@
 -- Document 00, sentence by sentence, of any results that meet the contracts of the calls. Assumes nothing.
-use Rattle.std.specs.Prelude.{Result as Results, Ok}
-use Rattle.grammar.specs.declared.refusal.Refusal.{Refusal}
-use Rattle.checker.specs.declared.Rejection.{Rejection}
-use Rattle.std.specs.Prelude.{List, ◌⊎◌, ◌≢◌, ◌↔◌, ◌≡◌, ℕ, ◌≤◌, length}
-use Rattle.grammar.specs.Refusal.{Checked, refused, accepted}
+use Rattle.std.specs.Prelude.{List, ◌⊎◌, ◌≢◌, ◌↔◌, ◌≡◌, ℕ, ◌≤◌, length, Result as Results, Ok}
+use Rattle.grammar.specs.Numbers.{checked_as}
+use Rattle.grammar.specs.Refusal.{Checked, accepted}
 use Rattle.grammar.specs.Sheet.{Grammar}
+use Rattle.grammar.specs.declared.refusal.Refusal.{Refusal}
 use Rattle.schema.specs.Derivation.{Pair, ◌at◌, success, failure, Outcome, result, Has}
 use Rattle.schema.specs.Machine.{says, ran, machine}
 use Rattle.schema.specs.Reached.{Reached, Number}
@@ -12,11 +11,11 @@ use Rattle.schema.specs.Table.{Within, cells, decided, held, Holds}
 use Rattle.finish.specs.Reply.{Reply, outcome_of, count_of}
 use Rattle.verdict.specs.Verdict.{numbers}
 use Rattle.verdict.specs.declared.Judgement.{Judgement}
-use Rattle.grammar.specs.Numbers.{checked_as}
 use Rattle.backtrack.specs.Run as run
 use Rattle.backtrack.specs.declared.Ending.{Ending}
 use Rattle.checker.specs.Checker.{Claimed, succeeds, fails, Checks, told}
 use Rattle.checker.specs.declared.Claim.{Claim}
+use Rattle.checker.specs.declared.Rejection.{Rejection}
 use Rattle.kept.specs.New.{New}
 
 -- ---- Demand 1.
