@@ -25,12 +25,10 @@ fn open_line(s: &[u8], count: usize) -> bool
     requires { (26 * count ≤ length s.now) × (count ≤ 257) }
     ensures { result ≡ open_line s.now count }
 {
-    let mut k: usize = 0;
-    while k < count {
+    for k in 0..count {
         if s[26 * k + 25] != 10 {
             return true;
         }
-        k += 1;
     }
     false
 }
@@ -85,10 +83,7 @@ fn read_header(s: &[u8]) -> Result<Grammar, Refusal>
 fn within(low: u32, high: u32, x: u32) -> bool
     ensures { result ≡ within low high x }
 {
-    if x < low {
-        return false;
-    }
-    x <= high
+    (low..=high).contains(&x)
 }
 
 // The rule that calls x, y and z, of v variables.

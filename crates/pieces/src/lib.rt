@@ -72,7 +72,7 @@ fn operand(variable: u32) -> u32
 fn byte_word(b: u8) -> u32
     ensures { result ≡ word (byte b) }
 {
-    16777216 * 3 + 65536 * u32::from(b)
+    grammar::rule::Rule::Byte(b).word()
 }
 
 // The word of a rule that calls x, y and z.

@@ -1,8 +1,12 @@
 -- Document 01, "The rule sheet": how the lines of a sheet are put into an output. Assumes nothing.
-use Rattle.std.specs.Prelude.{cond, List, [], ◌++◌, ◌≡◌, ℕ, ◌+◌, ◌*◌, ◌≤◌, length, take, drop}
+use Rattle.std.specs.Prelude.{cond, List, [], ◌++◌, ◌≡◌, ℕ, ◌+◌, ◌*◌, ◌≤◌, length, take, drop, Option, Some, None}
 use Rattle.columns.specs.Column.{row}
 use Rattle.grammar.specs.Printing.{rule_numbers, printed, is_absent, rules_of}
 use Rattle.grammar.specs.Rule.{Rule}
+
+-- The numbers of the line of a variable, where it has a rule.
+abbrev pub numbers_of : ℕ → Rule → Option (List ℕ)
+numbers_of A r = cond (is_absent r) None (Some (rule_numbers A r))
 
 -- The line of a variable, where it has a rule.
 abbrev pub line_of : ℕ → Rule → List ℕ

@@ -1,33 +1,27 @@
 // Writes the rule sheet of an array of rules.
 #![tactic(auto)]
 
-ghost use Rattle.std.specs.Prelude.{◌≡◌, ◌+◌, ◌/◌, ◌≤◌, length};
-ghost use Rattle.columns.specs.Column.{row};
-ghost use Rattle.grammar.specs.Printing.{text, rule_numbers, rule_rows, rules_of};
-ghost use Rattle.grammar.specs.Words.{rule_for, rule_in};
-ghost use Rattle.printing.specs.Listing.{line_of, Puts, SheetReady, SheetPut};
+ghost use Rattle.std.specs.Prelude.{◌≡◌, ◌+◌, ◌≤◌, length};
+ghost use Rattle.grammar.specs.Printing.{text, rule_rows, rules_of};
+ghost use Rattle.grammar.specs.Words.{rule_for, rule_held, rule_in};
+ghost use Rattle.printing.specs.Listing.{numbers_of, line_of, Puts, SheetReady, SheetPut};
 
+use grammar::rule::Rule;
 use grammar::sheet::Rules;
 use rows::write_row;
 
-// Writes the line of a variable over 26 bytes; its word is that of a rule.
-fn write_rule(out: &mut [u8], variable: u32, word: u32)
-    requires { (length out.old ≡ 26) × (1 ≤ word / 16777216) × (word / 16777216 ≤ 5) }
-    ensures { out.new ≡ row 5 (rule_numbers variable (rule_for word)) }
+// The numbers of the line of a variable, where it has a rule.
+fn numbers_of(variable: u32, rule: Rule) -> Option<[u32; 5]>
+    ensures { result ≡ numbers_of variable (rule_held rule) }
 {
-    let kind = word / 16777216 - 1;
-    let first = word / 65536 % 256;
-    if kind == 4 {
-        let c = word / 256 % 256 + 1;
-        let d = word % 256 + 1;
-        write_row(out, 5, &[variable, 4, first + 1, c, d]);
-        return;
+    match rule {
+        Rule::Absent => None,
+        Rule::Always => Some([variable, 0, 0, 0, 0]),
+        Rule::Never => Some([variable, 1, 0, 0, 0]),
+        Rule::Byte(byte) => Some([variable, 2, u32::from(byte), 0, 0]),
+        Rule::Class(class) => Some([variable, 3, u32::from(class), 0, 0]),
+        Rule::Call(b, c, d) => Some([variable, 4, b, c, d]),
     }
-    if kind < 2 {
-        write_row(out, 5, &[variable, kind, 0, 0, 0]);
-        return;
-    }
-    write_row(out, 5, &[variable, kind, first, 0, 0]);
 }
 
 // Puts the line of a variable into the output, where it has a rule, and gives the position behind it.
@@ -35,14 +29,10 @@ fn put_rule(out: &mut [u8], at: usize, variable: u32, word: u32) -> usize
     requires { at + 26 ≤ length out.old }
     ensures { Puts at (line_of variable (rule_for word)) out.old out.new result }
 {
-    let kind = word / 16777216;
-    if kind == 0 {
+    let Some(numbers) = numbers_of(variable, Rule::from(word)) else {
         return at;
-    }
-    if 5 < kind {
-        return at;
-    }
-    write_rule(&mut out[at..at + 26], variable, word);
+    };
+    write_row(&mut out[at..at + 26], 5, &numbers);
     at + 26
 }
 

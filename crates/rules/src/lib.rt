@@ -80,7 +80,8 @@ pub fn first_of(rules: &Rules, variable: u32) -> u32
     requires { (1 ≤ variable) × (variable ≤ 256) }
     ensures { result ≡ first_in rules.now variable }
 {
-    rules[variable as usize - 1] / 65536 % 256 + 1
+    let [_, first, _, _] = rules[variable as usize - 1].to_be_bytes();
+    u32::from(first) + 1
 }
 
 // The variable that a kind 4 rule calls second: C on success, D on failure. Of any other rule, what its word's bytes say.
@@ -88,11 +89,8 @@ pub fn second_of(rules: &Rules, variable: u32, flag: bool) -> u32
     requires { (1 ≤ variable) × (variable ≤ 256) }
     ensures { result ≡ second_in rules.now variable flag }
 {
-    let word = rules[variable as usize - 1];
-    if flag {
-        return word / 256 % 256 + 1;
-    }
-    word % 256 + 1
+    let [_, _, after_success, after_failure] = rules[variable as usize - 1].to_be_bytes();
+    u32::from(if flag { after_success } else { after_failure }) + 1
 }
 
 // The grammar of a sheet, its rules in the lent array, for a question about an input, a variable and a position; or the first of refusals

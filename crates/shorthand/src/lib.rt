@@ -7,6 +7,7 @@ ghost use Rattle.shorthand.specs.Lines.{opened_letter, Names, LineReady, LineRea
 ghost use Rattle.shorthand.specs.Promise.{EndReady, Ends, CompilePromise};
 
 use grammar::refusal::Refusal;
+use grammar::rule::Rule;
 use grammar::sheet::Rules;
 use letters::number_letters;
 use pieces::source::Source;
@@ -106,8 +107,8 @@ pub fn compile(text: &[u8], out: &mut [u8]) -> Result<usize, Refusal>
     let mut numbers = [0; 26];
     let count = number_letters(text, &mut numbers);
     let mut rules: Rules = [0; 256];
-    rules[count as usize] = 16777216;
-    rules[count as usize + 1] = 33554432;
+    rules[count as usize] = Rule::Always.word();
+    rules[count as usize + 1] = Rule::Never.word();
     let first = Piece {
         at: 0,
         variable: 0,

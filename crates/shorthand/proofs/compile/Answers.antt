@@ -16,8 +16,8 @@ returns-in_err-read c =
 
 pub write_rules-requires : goal.write_rules-requires
 write_rules-requires c =
-    end_ready _ _ _ c.number_letters-count.ensures (λ i. omega (arith, c.type_inv.text i)) _ _ c.in_ok-read.ensures
+    end_ready _ _ _ c.number_letters-count.ensures (λ i. omega (arith, c.type_inv.text i)) _ _ (rw (c.word.ensures, c.word-2.ensures) at c.in_ok-read.ensures)
 
 pub returns : goal.returns
 returns c =
-    compiled _ _ _ c.number_letters-count.ensures (λ i. omega (arith, c.type_inv.text i)) _ _ c.in_ok-read.ensures _ _ _ c.write_rules.ensures
+    compiled _ _ _ c.number_letters-count.ensures (λ i. omega (arith, c.type_inv.text i)) _ _ (rw (c.word.ensures, c.word-2.ensures) at c.in_ok-read.ensures) _ _ _ c.write_rules.ensures
