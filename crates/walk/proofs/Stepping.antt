@@ -331,16 +331,6 @@ module _ {rule : ℕ → Rule} {s : List ℕ} {v A p : ℕ} {T₀ W₀ : List �
   closed : Closed v rule
   closed = r.walkable.closed
 
-  -- The bounds of the asked pair.
-  pub asked_bounds : (1 ≤ A) × (A ≤ 256) × (length s ≤ 4096) × (p ≤ length s) × HasCell T₀ (cell (length s) (A at p))
-  asked_bounds =
-      let w = r.within in
-      let f = r.walkable.few in
-      let h = w.variable.1 in
-      let m = r.walkable.room in
-      let b = cell_below v (length s) (A at p) w in
-      (w.variable.0, omega arith, r.walkable.short, w.position, omega arith)
-
   -- The beginning: the asked pair is open, and no other, and its first call is next.
   pub stands_first : (b C D : ℕ) → act rule s (A at p) ≡ calls b C D → (x : State) → top_of x ≡ A at p → called_of x ≡ b at p → x.second ≡ false → x.depth ≡ 0
       → Standing rule s v (A at p) O W₀ T₀ W₀ x
