@@ -2,33 +2,10 @@
 ghost use Rattle.std.specs.Counts.{IsPrefixLen};
 
 use crate::write_output;
-use std::io::Read;
+use loading::load;
+pub use loading::read_full;
+use std::io;
 use std::rt::Files;
-use std::{fs, io};
-
-// Reads until the buffer is full, the input ends or a read fails; the count of bytes that were read.
-pub fn read_full<R: Read>(reader: &mut R, buffer: &mut [u8]) -> usize
-    ensures { IsPrefixLen result buffer.new }
-{
-    let mut done = 0;
-    while done < buffer.len() {
-        match reader.read(&mut buffer[done..]) {
-            Ok(0) | Err(_) => break,
-            Ok(n) => done += n,
-        }
-    }
-    done
-}
-
-// The bytes of the sheet file, as far as the buffer goes; none where the file cannot be opened.
-fn load_sheet(rt: &impl Files, buffer: &mut [u8]) -> usize
-    ensures { IsPrefixLen result buffer.new }
-{
-    match fs::open(rt, "sheet.txt") {
-        Ok(mut file) => read_full(&mut file, buffer),
-        Err(_) => 0,
-    }
-}
 
 // The output, with its length in the form that a part of the buffer asks for.
 fn fill(sheet: &[u8], input: &[u8], out: &mut [u8]) -> usize
@@ -47,7 +24,7 @@ pub fn print(rt: &impl Print, sheet: &[u8], input: &[u8]) -> io::Result<()> {
 // A sheet has at most 6,682 bytes and an input at most 4,096: both buffers hold more, so that what is longer is refused.
 pub fn run(rt: &(impl Files + Input + Print)) -> io::Result<()> {
     let mut sheet = [0u8; 6708];
-    let sheet_length = load_sheet(rt, &mut sheet);
+    let sheet_length = load(rt, "sheet.txt", &mut sheet);
     let mut input = [0u8; 4097];
     let input_length = read_full(&mut rt.reader(), &mut input);
     print(rt, &sheet[..sheet_length], &input[..input_length])
