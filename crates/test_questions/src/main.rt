@@ -52,19 +52,15 @@
 // one that is written to is filled. A table's sum is over outcomes and reaches alike.
 #![tactic(auto)]
 
-ghost use Rattle.std.specs.Prelude.{◌<◌, ◌≤◌};
-ghost use Rattle.std.specs.Counts.{IsPrefixLen};
-
 use archive::Stored;
 use backtrack::Ending;
 use checker::Claim;
 use columns::{Cursor, Field};
 use finish::Answer;
+use loading::load;
 use opening::Prefix;
-use rows::write_field;
-use std::io::Read;
-use std::rt::Files;
-use std::{fs, io};
+use rows::write_row;
+use std::{io, mem};
 
 // What stands in a table and in an output before a call.
 const UNTOUCHED_NUMBER: u32 = 77777;
@@ -74,132 +70,209 @@ const UNTOUCHED_BYTE: u8 = 42;
 // A sum is below this number.
 const MODULUS: u64 = 9999991;
 
-// What is asked of a sheet and an entry.
+// What is asked, in the order of the numbers.
 #[derive(Clone, Copy)]
-struct Request {
+enum Task {
+    Question,
+    Machine,
+    Reading,
+    Damage,
+    Kept,
+    Correction,
+    Put,
+    Opening,
+    Further,
+    Blank,
+    Store,
+    Restore,
+    Shown,
+    Edit,
+}
+
+impl TryFrom<u32> for Task {
+    type Error = u32;
+
+    fn try_from(number: u32) -> Result<Task, u32> {
+        Ok(match number {
+            0 => Task::Question,
+            1 => Task::Machine,
+            2 => Task::Reading,
+            3 => Task::Damage,
+            4 => Task::Kept,
+            5 => Task::Correction,
+            6 => Task::Put,
+            7 => Task::Opening,
+            8 => Task::Further,
+            9 => Task::Blank,
+            10 => Task::Store,
+            11 => Task::Restore,
+            12 => Task::Shown,
+            13 => Task::Edit,
+            _ => return Err(number),
+        })
+    }
+}
+
+// A task on a sheet and an entry.
+#[derive(Clone, Copy)]
+struct Request<'a> {
+    task: Task,
+    sheet: &'a [u8],
+    entry: &'a [u8],
     variable: u32,
     position: u32,
-    task: u32,
     x: u32,
     y: u32,
 }
 
-// Four numbers of an answer: code, variable or refusal number, place or line, count.
+// What lasts from one request to the next. The entry may be one byte too long for the calls.
 #[derive(Drop)]
-struct Four(u32, u32, u32, u32);
-
-fn print_field(rt: &impl Print, x: u32) -> io::Result<()> {
-    let mut field = [0u8; 8];
-    write_field(&mut field, x);
-    rt.write_all(&field)
+struct Kept {
+    entry: [u8; 4097],
+    table: [u32; 65536],
+    stored: [u32; 65536],
 }
 
-fn print_answer(rt: &impl Print, number: u32, task: u32, four: Four, sum: u32) -> io::Result<()> {
-    print_field(rt, number)?;
-    print_field(rt, task)?;
-    print_field(rt, four.0)?;
-    print_field(rt, four.1)?;
-    print_field(rt, four.2)?;
-    print_field(rt, four.3)?;
-    print_field(rt, sum)?;
-    rt.write_all(b"\n")
+// What a line answers, in the order of the numbers.
+#[derive(Clone, Copy)]
+enum Kind {
+    Question,
+    Machine,
+    Writer,
+    Checker,
+    Fault,
+    End,
+    Correction,
+    Put,
+    Opening,
+    Further,
+    Blank,
+    Store,
+    Restore,
+    Edit,
 }
 
-fn print_fault(rt: &impl Print, number: u32) -> io::Result<()> {
-    print_answer(rt, number, 4, Four(0, 0, 0, 0), 0)
+// What an answer says first, with its number.
+#[derive(Clone, Copy)]
+enum Code {
+    Done = 0,
+    Failure = 1,
+    Loop = 2,
+    Missing = 3,
+    Spent = 6,
+    NoFrame = 7,
+    NoOpening = 8,
+    Refused = 9,
 }
 
-// The sum of one more number: each number counts by its place.
-fn summed(sum: u64, x: u32) -> u64
-    requires { sum < 9999991 }
-    ensures { result < 9999991 }
-{
-    (257 * sum + x as u64) % MODULUS
+// Four numbers of an answer: code, variable or refusal number, place or line, count.
+#[derive(Clone, Copy)]
+struct Four(Code, u32, u32, u32);
+
+// A line behind the number of its request: what it answers, and a sum.
+#[derive(Clone, Copy)]
+struct Line {
+    kind: Kind,
+    four: Four,
+    sum: u32,
 }
 
-fn wide(x: u8) -> u32 {
-    x as u32
+// The lines of an answer: behind a reading stands that of its check.
+type Lines = (Line, Option<Line>);
+
+const FAULT: Line = Line {
+    kind: Kind::Fault,
+    four: Four(Code::Done, 0, 0, 0),
+    sum: 0,
+};
+
+impl From<Answer> for Four {
+    fn from(answer: Answer) -> Four {
+        match answer {
+            Answer::Success(end, count) => Four(Code::Done, 0, end, count),
+            Answer::Failure(count) => Four(Code::Failure, 0, 0, count),
+            Answer::Loop(variable, position, count) => Four(Code::Loop, variable, position, count),
+            Answer::Missing(variable, position, count) => {
+                Four(Code::Missing, variable, position, count)
+            }
+            Answer::Refused(number, line) => Four(Code::Refused, number, line, 0),
+        }
+    }
 }
 
-fn sum_of_numbers(numbers: &[u32]) -> u32 {
+impl From<Ending> for Four {
+    fn from(ending: Ending) -> Four {
+        match ending {
+            Ending::Success(end, moves) => Four(Code::Done, 0, end, moves),
+            Ending::Failure(moves) => Four(Code::Failure, 0, 0, moves),
+            Ending::Missing(moves) => Four(Code::Missing, 0, 0, moves),
+            Ending::Spent(moves) => Four(Code::Spent, 0, 0, moves),
+            Ending::NoFrame(moves) => Four(Code::NoFrame, 0, 0, moves),
+            Ending::Refused(number, line) => Four(Code::Refused, number, line, 0),
+        }
+    }
+}
+
+impl From<Claim> for Four {
+    fn from(claim: Claim) -> Four {
+        match claim {
+            Claim::Success(end) => Four(Code::Done, 0, end, 0),
+            Claim::Failure(end) => Four(Code::Failure, 0, end, 0),
+            Claim::Refused(number, line) => Four(Code::Refused, number, low_digits(line), 0),
+        }
+    }
+}
+
+impl From<Prefix> for Four {
+    fn from(prefix: Prefix) -> Four {
+        match prefix {
+            Prefix::Least(m) => Four(Code::Loop, 0, m, 0),
+            Prefix::None => Four(Code::NoOpening, 0, 0, 0),
+            Prefix::Refused(number, line) => Four(Code::Refused, number, line, 0),
+        }
+    }
+}
+
+impl From<Stored> for Four {
+    fn from(stored: Stored) -> Four {
+        match stored {
+            Stored::Done => Four(Code::Done, 0, 0, 0),
+            Stored::Refused(number, line) => Four(Code::Refused, number, line, 0),
+        }
+    }
+}
+
+impl Four {
+    // With another count.
+    fn counting(self, count: u32) -> Four {
+        Four(self.0, self.1, self.2, count)
+    }
+}
+
+// Prints a line: the number of a request, what is answered, five numbers.
+fn print_fields(rt: &impl Print, fields: &[u32; 7]) -> io::Result<()> {
+    let mut row = [0u8; 57];
+    write_row(&mut row, 8, fields);
+    rt.write_all(&row)
+}
+
+fn print_line(rt: &impl Print, number: u32, line: Line) -> io::Result<()> {
+    let Four(code, name, place, count) = line.four;
+    let kind = line.kind as u32;
+    print_fields(
+        rt,
+        &[number, kind, code as u32, name, place, count, line.sum],
+    )
+}
+
+// The sum of numbers: each counts by its place.
+fn sum_of<T: Copy + Into<u32>>(numbers: &[T]) -> u32 {
     let mut sum: u64 = 0;
-    let mut i: usize = 0;
-    while i < numbers.len() {
-        sum = summed(sum, numbers[i]);
-        i += 1;
+    for x in numbers {
+        let x: u32 = (*x).into();
+        sum = (257 * sum + u64::from(x)) % MODULUS;
     }
     sum as u32
-}
-
-fn sum_of_bytes(bytes: &[u8]) -> u32 {
-    let mut sum: u64 = 0;
-    let mut i: usize = 0;
-    while i < bytes.len() {
-        sum = summed(sum, wide(bytes[i]));
-        i += 1;
-    }
-    sum as u32
-}
-
-fn fill_numbers(numbers: &mut [u32], x: u32) {
-    let mut i: usize = 0;
-    while i < numbers.len() {
-        numbers[i] = x;
-        i += 1;
-    }
-}
-
-fn fill_bytes(bytes: &mut [u8]) {
-    let mut i: usize = 0;
-    while i < bytes.len() {
-        bytes[i] = UNTOUCHED_BYTE;
-        i += 1;
-    }
-}
-
-fn numbers_of_answer(answer: Answer) -> Four {
-    match answer {
-        Answer::Success(end, count) => Four(0, 0, end, count),
-        Answer::Failure(count) => Four(1, 0, 0, count),
-        Answer::Loop(variable, position, count) => Four(2, variable, position, count),
-        Answer::Missing(variable, position, count) => Four(3, variable, position, count),
-        Answer::Refused(number, line) => Four(9, number, line, 0),
-    }
-}
-
-fn numbers_of_ending(ending: Ending) -> Four {
-    match ending {
-        Ending::Success(end, moves) => Four(0, 0, end, moves),
-        Ending::Failure(moves) => Four(1, 0, 0, moves),
-        Ending::Missing(moves) => Four(3, 0, 0, moves),
-        Ending::Spent(moves) => Four(6, 0, 0, moves),
-        Ending::NoFrame(moves) => Four(7, 0, 0, moves),
-        Ending::Refused(number, line) => Four(9, number, line, 0),
-    }
-}
-
-fn numbers_of_claim(claim: Claim, lines: u32) -> Four {
-    match claim {
-        Claim::Success(end) => Four(0, 0, end, lines),
-        Claim::Failure(end) => Four(1, 0, end, lines),
-        Claim::Refused(number, line) => Four(9, number, low_digits(line), lines),
-    }
-}
-
-// The sum is of a work slice, and stands where the slice must be as it was.
-fn numbers_of_prefix(prefix: Prefix, sum: u32) -> Four {
-    match prefix {
-        Prefix::Least(m) => Four(2, 0, m, 0),
-        Prefix::None => Four(8, 0, 0, 0),
-        Prefix::Refused(number, line) => Four(9, number, line, sum),
-    }
-}
-
-fn numbers_of_stored(stored: Stored) -> Four {
-    match stored {
-        Stored::Done => Four(0, 0, 0, 0),
-        Stored::Refused(number, line) => Four(9, number, line, 0),
-    }
 }
 
 // How many cells have so many numbers of a table, rounded up.
@@ -212,784 +285,402 @@ fn low_digits(x: usize) -> u32 {
     (x % 100000000) as u32
 }
 
-// What a call of this kind answered about a pair, and the table that it left.
-fn print_outcome(
-    rt: &impl Print,
-    number: u32,
-    kind: u32,
-    answer: Answer,
-    table: &[u32],
-) -> io::Result<()> {
-    print_answer(
-        rt,
-        number,
-        kind,
-        numbers_of_answer(answer),
-        sum_of_numbers(table),
-    )
-}
-
 // Tasks 0 and 4, with the lent slices.
-fn question(
-    rt: &impl Print,
-    number: u32,
-    sheet: &[u8],
-    entry: &[u8],
-    r: Request,
-    table: &mut [u32],
-    work: &mut [u32],
-) -> io::Result<()> {
-    fill_numbers(table, UNTOUCHED_NUMBER);
-    let answer = memo::question(sheet, entry, r.variable, r.position, table, work);
-    print_outcome(rt, number, 0, answer, table)
+fn question(asked: &Request<'_>, table: &mut [u32], work: &mut [u32]) -> Line {
+    table.fill(UNTOUCHED_NUMBER);
+    let answer = memo::question(
+        asked.sheet,
+        asked.entry,
+        asked.variable,
+        asked.position,
+        table,
+        work,
+    );
+    Line {
+        kind: Kind::Question,
+        four: Four::from(answer),
+        sum: sum_of(table),
+    }
 }
 
-// Task 7, with the lent slices.
-fn find_opening(
-    rt: &impl Print,
-    number: u32,
-    sheet: &[u8],
-    entry: &[u8],
-    table: &mut [u32],
-    work: &mut [u32],
-) -> io::Result<()> {
-    fill_numbers(table, UNTOUCHED_NUMBER);
-    let prefix = opening::opening(sheet, entry, table, work);
-    let four = numbers_of_prefix(prefix, sum_of_numbers(work));
-    print_answer(rt, number, 8, four, sum_of_numbers(table))
+// Task 7, with the lent slices. Under a refusal the count is the sum of the work slice, which must be as it was.
+fn find_opening(asked: &Request<'_>, table: &mut [u32], work: &mut [u32]) -> Line {
+    table.fill(UNTOUCHED_NUMBER);
+    let mut four = Four::from(opening::opening(asked.sheet, asked.entry, table, work));
+    if let Code::Refused = four.0 {
+        four = four.counting(sum_of(work));
+    }
+    Line {
+        kind: Kind::Opening,
+        four,
+        sum: sum_of(table),
+    }
 }
 
 // Task 8, with the lent slices.
-fn further(
-    rt: &impl Print,
-    number: u32,
-    sheet: &[u8],
-    entry: &[u8],
-    r: Request,
-    table: &mut [u32],
-    work: &mut [u32],
-) -> io::Result<()> {
-    let answer = correction::further(sheet, entry, r.variable, r.position, table, work);
-    print_outcome(rt, number, 9, answer, table)
+fn further(asked: &Request<'_>, table: &mut [u32], work: &mut [u32]) -> Line {
+    let answer = correction::further(
+        asked.sheet,
+        asked.entry,
+        asked.variable,
+        asked.position,
+        table,
+        work,
+    );
+    Line {
+        kind: Kind::Further,
+        four: Four::from(answer),
+        sum: sum_of(table),
+    }
 }
 
 // Task 9, with the lent table.
-fn blank(rt: &impl Print, number: u32, table: &mut [u32]) -> io::Result<()> {
-    fill_numbers(table, 0);
-    print_answer(rt, number, 10, Four(0, 0, 0, 0), sum_of_numbers(table))
-}
-
-// Tasks 0, 4, 7, 8 and 9, with the lent slices.
-fn ask(
-    rt: &impl Print,
-    number: u32,
-    sheet: &[u8],
-    entry: &[u8],
-    r: Request,
-    table: &mut [u32],
-    work: &mut [u32],
-) -> io::Result<()> {
-    let task = r.task;
-    match task {
-        7 => find_opening(rt, number, sheet, entry, table, work),
-        8 => further(rt, number, sheet, entry, r, table, work),
-        9 => blank(rt, number, table),
-        _ => question(rt, number, sheet, entry, r, table, work),
+fn blank(table: &mut [u32]) -> Line {
+    table.fill(0);
+    Line {
+        kind: Kind::Blank,
+        four: Four(Code::Done, 0, 0, 0),
+        sum: sum_of(table),
     }
 }
 
 // Tasks 0, 4, 7, 8 and 9.
-fn run_question(
-    rt: &impl Print,
-    number: u32,
-    sheet: &[u8],
-    entry: &[u8],
-    r: Request,
-    table: &mut [u32],
-    work: &mut [u32],
-) -> io::Result<()> {
-    let x = r.x as usize;
-    let y = r.y as usize;
-    if table.len() < x {
-        return print_fault(rt, number);
-    }
-    if work.len() < y {
-        return print_fault(rt, number);
-    }
-    ask(
-        rt,
-        number,
-        sheet,
-        entry,
-        r,
-        &mut table[0..x],
-        &mut work[0..y],
-    )
+fn run_question(asked: &Request<'_>, table: &mut [u32], work: &mut [u32]) -> Option<Line> {
+    let table = table.get_mut(..asked.x as usize)?;
+    let work = work.get_mut(..asked.y as usize)?;
+    Some(match asked.task {
+        Task::Opening => find_opening(asked, table, work),
+        Task::Further => further(asked, table, work),
+        Task::Blank => blank(table),
+        _ => question(asked, table, work),
+    })
+}
+
+// Tasks 0 and 7, with a table of 32,768 cells.
+fn run_fresh(asked: &Request<'_>, work: &mut [u32]) -> Option<Line> {
+    let mut table = [0u32; 65536];
+    run_question(asked, &mut table, work)
 }
 
 // Task 1.
-fn run_machine(
-    rt: &impl Print,
-    number: u32,
-    sheet: &[u8],
-    entry: &[u8],
-    r: Request,
-    frames: &mut [u32],
-) -> io::Result<()> {
-    let y = r.y as usize;
-    if frames.len() < y {
-        return print_fault(rt, number);
-    }
-    let ending = backtrack::run(sheet, entry, r.variable, r.position, &mut frames[0..y], r.x);
-    print_answer(rt, number, 1, numbers_of_ending(ending), 0)
+fn run_machine(asked: &Request<'_>, frames: &mut [u32]) -> Option<Line> {
+    let frames = frames.get_mut(..asked.y as usize)?;
+    let ending = backtrack::run(
+        asked.sheet,
+        asked.entry,
+        asked.variable,
+        asked.position,
+        frames,
+        asked.x,
+    );
+    Some(Line {
+        kind: Kind::Machine,
+        four: Four::from(ending),
+        sum: 0,
+    })
 }
 
 // Checks the first lines of an output as a reading.
-fn check(
-    rt: &impl Print,
-    number: u32,
-    sheet: &[u8],
-    entry: &[u8],
-    r: Request,
-    out: &[u8],
-    lines: u32,
-) -> io::Result<()> {
-    let end = 49 * lines as usize;
-    if out.len() < end {
-        return print_fault(rt, number);
+fn check(asked: &Request<'_>, out: &[u8], lines: u32) -> Line {
+    let Some(reading) = out.get(..49 * lines as usize) else {
+        return FAULT;
+    };
+    let claim = checker::check(
+        asked.sheet,
+        asked.entry,
+        asked.variable,
+        asked.position,
+        reading,
+    );
+    Line {
+        kind: Kind::Checker,
+        four: Four::from(claim).counting(lines),
+        sum: 0,
     }
-    let claim = checker::check(sheet, entry, r.variable, r.position, &out[0..end]);
-    print_answer(rt, number, 3, numbers_of_claim(claim, lines), 0)
 }
 
-// Writes a reading; the count of its lines.
-fn write(
-    rt: &impl Print,
-    number: u32,
-    sheet: &[u8],
-    entry: &[u8],
-    r: Request,
-    table: &mut [u32],
-    work: &mut [u32],
-    out: &mut [u8],
-) -> io::Result<u32> {
-    fill_bytes(out);
-    let written = writer::write(sheet, entry, r.variable, r.position, table, work, out);
-    let answer = written.answer;
-    let four = numbers_of_answer(answer);
-    print_answer(
-        rt,
-        number,
-        2,
-        Four(four.0, four.1, four.2, written.lines),
-        sum_of_bytes(out),
-    )?;
-    Ok(written.lines)
-}
-
-// Task 2, with the lent slices.
-fn reading(
-    rt: &impl Print,
-    number: u32,
-    sheet: &[u8],
-    entry: &[u8],
-    r: Request,
-    table: &mut [u32],
-    work: &mut [u32],
-    out: &mut [u8],
-) -> io::Result<()> {
-    let lines = write(rt, number, sheet, entry, r, table, work, out)?;
-    check(rt, number, sheet, entry, r, out, lines)
+// Writes a reading: the line about it, and the count of its lines.
+fn write(asked: &Request<'_>, table: &mut [u32], work: &mut [u32], out: &mut [u8]) -> (Line, u32) {
+    out.fill(UNTOUCHED_BYTE);
+    let written = writer::write(
+        asked.sheet,
+        asked.entry,
+        asked.variable,
+        asked.position,
+        table,
+        work,
+        out,
+    );
+    let line = Line {
+        kind: Kind::Writer,
+        four: Four::from(written.answer).counting(written.lines),
+        sum: sum_of(out),
+    };
+    (line, written.lines)
 }
 
 // Task 2.
 fn run_reading(
-    rt: &impl Print,
-    number: u32,
-    sheet: &[u8],
-    entry: &[u8],
-    r: Request,
+    asked: &Request<'_>,
     table: &mut [u32],
     work: &mut [u32],
     out: &mut [u8],
-) -> io::Result<()> {
-    let x = r.x as usize;
-    let y = r.y as usize;
-    let cells = cells_of(x);
-    if table.len() < x {
-        return print_fault(rt, number);
-    }
-    if work.len() < cells {
-        return print_fault(rt, number);
-    }
-    if out.len() < y {
-        return print_fault(rt, number);
-    }
-    reading(
-        rt,
-        number,
-        sheet,
-        entry,
-        r,
-        &mut table[0..x],
-        &mut work[0..cells],
-        &mut out[0..y],
-    )
+) -> Option<Lines> {
+    let table = table.get_mut(..asked.x as usize)?;
+    let work = work.get_mut(..cells_of(asked.x as usize))?;
+    let out = out.get_mut(..asked.y as usize)?;
+    let (line, lines) = write(asked, table, work, out);
+    Some((line, Some(check(asked, out, lines))))
+}
+
+// Checks a reading of which one byte is made another.
+fn check_damaged(asked: &Request<'_>, out: &mut [u8], lines: u32) -> Option<Line> {
+    let byte = out.get_mut(asked.x as usize)?;
+    *byte = u8::try_from(asked.y).ok()?;
+    Some(check(asked, out, lines))
 }
 
 // Task 3.
-fn run_damage(
-    rt: &impl Print,
-    number: u32,
-    sheet: &[u8],
-    entry: &[u8],
-    r: Request,
-    table: &mut [u32],
-    work: &mut [u32],
-    out: &mut [u8],
-) -> io::Result<()> {
-    let lines = write(rt, number, sheet, entry, r, table, work, out)?;
-    let x = r.x as usize;
-    if out.len() <= x {
-        return print_fault(rt, number);
+fn run_damage(asked: &Request<'_>, table: &mut [u32], work: &mut [u32], out: &mut [u8]) -> Lines {
+    let (line, lines) = write(asked, table, work, out);
+    (
+        line,
+        Some(check_damaged(asked, out, lines).unwrap_or(FAULT)),
+    )
+}
+
+// Tasks 2 and 3, with a table of 32,768 cells and an output.
+fn run_written(asked: &Request<'_>, work: &mut [u32]) -> Option<Lines> {
+    let mut table = [0u32; 65536];
+    let mut out = [0u8; 262144];
+    match asked.task {
+        Task::Damage => Some(run_damage(asked, &mut table, work, &mut out)),
+        _ => run_reading(asked, &mut table, work, &mut out),
     }
-    if 255 < r.y {
-        return print_fault(rt, number);
-    }
-    out[x] = r.y as u8;
-    check(rt, number, sheet, entry, r, out, lines)
 }
 
 // Tasks 4 and 9.
-fn run_kept(
-    rt: &impl Print,
-    number: u32,
-    sheet: &[u8],
-    entry: &[u8],
-    r: Request,
-    kept_entry: &mut [u8],
-    kept_table: &mut [u32],
-    work: &mut [u32],
-) -> io::Result<()> {
-    if kept_entry.len() < entry.len() {
-        return print_fault(rt, number);
-    }
-    kept_entry[..entry.len()].copy_from_slice(entry);
-    run_question(rt, number, sheet, entry, r, kept_table, work)
+fn run_kept(asked: &Request<'_>, kept: &mut Kept, work: &mut [u32]) -> Option<Line> {
+    let entry = kept.entry.get_mut(..asked.entry.len())?;
+    entry.copy_from_slice(asked.entry);
+    run_question(asked, &mut kept.table, work)
 }
 
-// Makes a byte of an entry another, where the entry reaches so far.
-fn set_byte(entry: &mut [u8], at: usize, byte: u8) {
-    if at < entry.len() {
-        entry[at] = byte;
-    }
-}
-
-// A correction at x, with the lent slices.
-fn correct(
-    rt: &impl Print,
-    number: u32,
-    sheet: &[u8],
+// A correction at c of an old entry.
+fn run_correction(
+    asked: &Request<'_>,
     old: &[u8],
-    entry: &[u8],
-    r: Request,
+    c: u32,
     table: &mut [u32],
     work: &mut [u32],
-) -> io::Result<()> {
-    let answer = correction::correct(sheet, old, entry, r.variable, r.position, r.x, table, work);
-    print_outcome(rt, number, 6, answer, table)
-}
-
-// A correction at x.
-fn run_correction(
-    rt: &impl Print,
-    number: u32,
-    sheet: &[u8],
-    old: &[u8],
-    entry: &[u8],
-    r: Request,
-    kept_table: &mut [u32],
-    work: &mut [u32],
-) -> io::Result<()> {
-    let lent = (r.y / 256) as usize;
-    let cells = cells_of(lent);
-    if kept_table.len() < lent {
-        return print_fault(rt, number);
-    }
-    if work.len() < cells {
-        return print_fault(rt, number);
-    }
-    correct(
-        rt,
-        number,
-        sheet,
+) -> Option<Line> {
+    let lent = (asked.y / 256) as usize;
+    let table = table.get_mut(..lent)?;
+    let work = work.get_mut(..cells_of(lent))?;
+    let answer = correction::correct(
+        asked.sheet,
         old,
-        entry,
-        r,
-        &mut kept_table[0..lent],
-        &mut work[0..cells],
-    )
+        asked.entry,
+        asked.variable,
+        asked.position,
+        c,
+        table,
+        work,
+    );
+    Some(Line {
+        kind: Kind::Correction,
+        four: Four::from(answer),
+        sum: sum_of(table),
+    })
 }
 
 // Task 5: the entry as it was is shown.
-fn run_change(
-    rt: &impl Print,
-    number: u32,
-    sheet: &[u8],
-    entry: &mut [u8],
-    r: Request,
-    kept_table: &mut [u32],
-    work: &mut [u32],
-) -> io::Result<()> {
-    let mut old = [0u8; 4097];
-    let length = entry.len();
-    if old.len() < length {
-        return print_fault(rt, number);
+fn run_change(asked: &Request<'_>, kept: &mut Kept, work: &mut [u32]) -> Option<Line> {
+    let old = kept.entry;
+    let old = old.get(..asked.entry.len())?;
+    let entry = kept.entry.get_mut(..asked.entry.len())?;
+    if let Some(byte) = entry.get_mut(asked.x as usize) {
+        *byte = (asked.y % 256) as u8;
     }
-    old[..length].copy_from_slice(entry);
-    set_byte(entry, r.x as usize, (r.y % 256) as u8);
-    run_correction(
-        rt,
-        number,
-        sheet,
-        &old[0..length],
-        entry,
-        r,
-        kept_table,
-        work,
-    )
+    let changed = Request { entry, ..*asked };
+    run_correction(&changed, old, asked.x, &mut kept.table, work)
 }
 
 // Task 12.
-fn run_shown(
-    rt: &impl Print,
-    number: u32,
-    sheet: &[u8],
-    old: &[u8],
-    r: Request,
-    kept_entry: &[u8],
-    kept_table: &mut [u32],
-    work: &mut [u32],
-) -> io::Result<()> {
-    let length = (r.x / 8192) as usize;
-    if kept_entry.len() < length {
-        return print_fault(rt, number);
-    }
-    let at = Request {
-        variable: r.variable,
-        position: r.position,
-        task: r.task,
-        x: r.x % 8192,
-        y: r.y,
-    };
-    run_correction(
-        rt,
-        number,
-        sheet,
-        old,
-        &kept_entry[0..length],
-        at,
-        kept_table,
-        work,
-    )
+fn run_shown(asked: &Request<'_>, kept: &mut Kept, work: &mut [u32]) -> Option<Line> {
+    let entry = kept.entry.get(..(asked.x / 8192) as usize)?;
+    let shown = Request { entry, ..*asked };
+    run_correction(&shown, asked.entry, asked.x % 8192, &mut kept.table, work)
 }
 
-// Task 13.
-fn run_edit(rt: &impl Print, number: u32, r: Request, kept_entry: &mut [u8]) -> io::Result<()> {
-    let x = r.x as usize;
-    if kept_entry.len() <= x {
-        return print_fault(rt, number);
-    }
-    if 255 < r.y {
-        return print_fault(rt, number);
-    }
-    let before = wide(kept_entry[x]);
-    kept_entry[x] = r.y as u8;
-    print_answer(rt, number, 13, Four(0, 0, 0, before), 0)
-}
-
-// Tasks 5 and 8, on so many bytes of the kept entry.
-fn run_over(
-    rt: &impl Print,
-    number: u32,
-    sheet: &[u8],
-    length: usize,
-    r: Request,
-    kept_entry: &mut [u8],
-    kept_table: &mut [u32],
-    work: &mut [u32],
-) -> io::Result<()> {
-    if kept_entry.len() < length {
-        return print_fault(rt, number);
-    }
-    let entry = &mut kept_entry[0..length];
-    let task = r.task;
-    match task {
-        5 => run_change(rt, number, sheet, entry, r, kept_table, work),
-        _ => run_question(rt, number, sheet, entry, r, kept_table, work),
-    }
+// Task 8.
+fn run_further(asked: &Request<'_>, kept: &mut Kept, work: &mut [u32]) -> Option<Line> {
+    let entry = kept.entry.get(..asked.entry.len())?;
+    let again = Request { entry, ..*asked };
+    run_question(&again, &mut kept.table, work)
 }
 
 // Task 6.
-fn run_put(rt: &impl Print, number: u32, r: Request, kept_table: &mut [u32]) -> io::Result<()> {
-    let x = r.x as usize;
-    if kept_table.len() <= x {
-        return print_fault(rt, number);
-    }
-    let before = kept_table[x];
-    kept_table[x] = r.y;
-    print_answer(rt, number, 7, Four(0, 0, 0, before), 0)
+fn run_put(asked: &Request<'_>, kept: &mut Kept) -> Option<Line> {
+    let number = kept.table.get_mut(asked.x as usize)?;
+    let before = mem::replace(number, asked.y);
+    Some(Line {
+        kind: Kind::Put,
+        four: Four(Code::Done, 0, 0, before),
+        sum: 0,
+    })
 }
 
-// Task 10, with the lent tables.
-fn store(
-    rt: &impl Print,
-    number: u32,
-    r: Request,
-    table: &[u32],
-    stored_table: &mut [u32],
-) -> io::Result<()> {
-    fill_numbers(stored_table, UNTOUCHED_NUMBER);
-    let stored = archive::store(r.variable, r.position, table, stored_table);
-    print_answer(
-        rt,
-        number,
-        11,
-        numbers_of_stored(stored),
-        sum_of_numbers(stored_table),
-    )
+// Task 13.
+fn run_edit(asked: &Request<'_>, kept: &mut Kept) -> Option<Line> {
+    let byte = kept.entry.get_mut(asked.x as usize)?;
+    let before = mem::replace(byte, u8::try_from(asked.y).ok()?);
+    Some(Line {
+        kind: Kind::Edit,
+        four: Four(Code::Done, 0, 0, u32::from(before)),
+        sum: 0,
+    })
 }
 
-// Task 11, with the lent tables.
-fn restore(
-    rt: &impl Print,
-    number: u32,
-    r: Request,
-    stored_table: &[u32],
-    table: &mut [u32],
-) -> io::Result<()> {
-    fill_numbers(table, UNTOUCHED_NUMBER);
-    let stored = archive::restore(r.variable, r.position, stored_table, table);
-    print_answer(
-        rt,
-        number,
-        12,
-        numbers_of_stored(stored),
-        sum_of_numbers(table),
-    )
+// Task 10.
+fn run_store(asked: &Request<'_>, kept: &mut Kept) -> Option<Line> {
+    let table = kept.table.get(..asked.x as usize)?;
+    let stored = kept.stored.get_mut(..asked.y as usize)?;
+    stored.fill(UNTOUCHED_NUMBER);
+    let answer = archive::store(asked.variable, asked.position, table, stored);
+    Some(Line {
+        kind: Kind::Store,
+        four: Four::from(answer),
+        sum: sum_of(stored),
+    })
 }
 
-// Tasks 10 and 11, from one table to the other.
-fn run_archive(
-    rt: &impl Print,
-    number: u32,
-    r: Request,
-    source: &[u32],
-    target: &mut [u32],
-) -> io::Result<()> {
-    let x = r.x as usize;
-    let y = r.y as usize;
-    if source.len() < x {
-        return print_fault(rt, number);
-    }
-    if target.len() < y {
-        return print_fault(rt, number);
-    }
-    let task = r.task;
-    match task {
-        10 => store(rt, number, r, &source[0..x], &mut target[0..y]),
-        _ => restore(rt, number, r, &source[0..x], &mut target[0..y]),
-    }
+// Task 11.
+fn run_restore(asked: &Request<'_>, kept: &mut Kept) -> Option<Line> {
+    let stored = kept.stored.get(..asked.x as usize)?;
+    let table = kept.table.get_mut(..asked.y as usize)?;
+    table.fill(UNTOUCHED_NUMBER);
+    let answer = archive::restore(asked.variable, asked.position, stored, table);
+    Some(Line {
+        kind: Kind::Restore,
+        four: Four::from(answer),
+        sum: sum_of(table),
+    })
 }
 
-// Tasks 2 and 3, with an output.
-fn run_written(
-    rt: &impl Print,
-    number: u32,
-    sheet: &[u8],
-    entry: &[u8],
-    r: Request,
-    table: &mut [u32],
-    work: &mut [u32],
-) -> io::Result<()> {
-    let mut out = [0u8; 262144];
-    let task = r.task;
-    match task {
-        2 => run_reading(rt, number, sheet, entry, r, table, work, &mut out),
-        3 => run_damage(rt, number, sheet, entry, r, table, work, &mut out),
-        _ => print_fault(rt, number),
-    }
-}
-
-// Tasks 0, 2, 3 and 7, with a table of 32,768 cells.
-fn run_fresh(
-    rt: &impl Print,
-    number: u32,
-    sheet: &[u8],
-    entry: &[u8],
-    r: Request,
-    work: &mut [u32],
-) -> io::Result<()> {
-    let mut table = [0u32; 65536];
-    let task = r.task;
-    match task {
-        0 | 7 => run_question(rt, number, sheet, entry, r, &mut table, work),
-        _ => run_written(rt, number, sheet, entry, r, &mut table, work),
-    }
-}
-
-// Runs a request on its sheet and its entry, over slices of its own and what is kept or stored. The work slice has twice the numbers that the
+// Runs a request, over slices of its own and what is kept; nothing where it reaches out of a slice. The work slice has twice the numbers that the
 // cells of a table need, for the machine's frames.
-fn run(
-    rt: &impl Print,
-    number: u32,
-    sheet: &[u8],
-    entry: &[u8],
-    r: Request,
-    kept_entry: &mut [u8],
-    kept_table: &mut [u32],
-    stored_table: &mut [u32],
-) -> io::Result<()> {
+fn run(asked: &Request<'_>, kept: &mut Kept) -> Option<Lines> {
     let mut work = [UNTOUCHED_NUMBER; 65536];
-    let task = r.task;
-    match task {
-        1 => run_machine(rt, number, sheet, entry, r, &mut work),
-        4 | 9 => run_kept(
-            rt, number, sheet, entry, r, kept_entry, kept_table, &mut work,
-        ),
-        5 | 8 => run_over(
-            rt,
-            number,
-            sheet,
-            entry.len(),
-            r,
-            kept_entry,
-            kept_table,
-            &mut work,
-        ),
-        6 => run_put(rt, number, r, kept_table),
-        10 => run_archive(rt, number, r, kept_table, stored_table),
-        11 => run_archive(rt, number, r, stored_table, kept_table),
-        12 => run_shown(
-            rt, number, sheet, entry, r, kept_entry, kept_table, &mut work,
-        ),
-        13 => run_edit(rt, number, r, kept_entry),
-        _ => run_fresh(rt, number, sheet, entry, r, &mut work),
-    }
-}
-
-// The nine numbers of a line; false where the line is malformed.
-fn read_numbers(line: &[u8], numbers: &mut [u32; 9]) -> bool {
-    if line.len() != 73 {
-        return false;
-    }
-    let mut i: usize = 0;
-    while i < 9 {
-        let cursor = Cursor { at: 8 * i };
-        let Field::Number(x, _) = cursor.eight(line) else {
-            return false;
-        };
-        numbers[i] = x;
-        i += 1;
-    }
-    line[72] == 10
-}
-
-fn size(x: u32) -> usize {
-    x as usize
-}
-
-// Takes the entry of a request, and runs it.
-fn run_on_sheet(
-    rt: &impl Print,
-    number: u32,
-    sheet: &[u8],
-    entries: &[u8],
-    numbers: &[u32; 9],
-    kept_entry: &mut [u8],
-    kept_table: &mut [u32],
-    stored_table: &mut [u32],
-) -> io::Result<()> {
-    let start = size(numbers[2]);
-    let length = size(numbers[3]);
-    if entries.len() < length {
-        return print_fault(rt, number);
-    }
-    if entries.len() - length < start {
-        return print_fault(rt, number);
-    }
-    let end = start + length;
-    let r = Request {
-        variable: numbers[4],
-        position: numbers[5],
-        task: numbers[6],
-        x: numbers[7],
-        y: numbers[8],
+    let line = match asked.task {
+        Task::Reading | Task::Damage => return run_written(asked, &mut work),
+        Task::Question | Task::Opening => run_fresh(asked, &mut work),
+        Task::Machine => run_machine(asked, &mut work),
+        Task::Kept | Task::Blank => run_kept(asked, kept, &mut work),
+        Task::Correction => run_change(asked, kept, &mut work),
+        Task::Further => run_further(asked, kept, &mut work),
+        Task::Shown => run_shown(asked, kept, &mut work),
+        Task::Put => run_put(asked, kept),
+        Task::Edit => run_edit(asked, kept),
+        Task::Store => run_store(asked, kept),
+        Task::Restore => run_restore(asked, kept),
     };
-    run(
-        rt,
-        number,
-        sheet,
-        &entries[start..end],
-        r,
-        kept_entry,
-        kept_table,
-        stored_table,
-    )
+    Some((line?, None))
 }
 
-// Takes the sheet of a request, and runs it.
-fn run_numbers(
-    rt: &impl Print,
-    number: u32,
-    sheets: &[u8],
-    entries: &[u8],
-    numbers: &[u32; 9],
-    kept_entry: &mut [u8],
-    kept_table: &mut [u32],
-    stored_table: &mut [u32],
-) -> io::Result<()> {
-    let start = size(numbers[0]);
-    let length = size(numbers[1]);
-    if sheets.len() < length {
-        return print_fault(rt, number);
+// The nine numbers of a line; nothing where the line is malformed.
+fn read_numbers(line: &[u8]) -> Option<[u32; 9]> {
+    if line.len() != 73 || line[72] != b'\n' {
+        return None;
     }
-    if sheets.len() - length < start {
-        return print_fault(rt, number);
+    let mut numbers = [0; 9];
+    let mut cursor = Cursor { at: 0 };
+    for number in &mut numbers {
+        let Field::Number(x, next) = cursor.eight(line) else {
+            return None;
+        };
+        *number = x;
+        cursor = next;
     }
-    let end = start + length;
-    run_on_sheet(
-        rt,
-        number,
-        &sheets[start..end],
-        entries,
-        numbers,
-        kept_entry,
-        kept_table,
-        stored_table,
-    )
+    Some(numbers)
+}
+
+// The part of a text that starts so far in and is so long.
+fn part(text: &[u8], start: u32, length: u32) -> Option<&[u8]> {
+    text.get(start as usize..)?.get(..length as usize)
+}
+
+// The request of a line; nothing where the line is malformed or reaches out of the files.
+fn read_request<'a>(line: &[u8], sheets: &'a [u8], entries: &'a [u8]) -> Option<Request<'a>> {
+    let numbers = read_numbers(line)?;
+    let [
+        sheet,
+        sheet_length,
+        entry,
+        entry_length,
+        variable,
+        position,
+        task,
+        x,
+        y,
+    ] = numbers;
+    Some(Request {
+        task: Task::try_from(task).ok()?,
+        sheet: part(sheets, sheet, sheet_length)?,
+        entry: part(entries, entry, entry_length)?,
+        variable,
+        position,
+        x,
+        y,
+    })
 }
 
 // Runs the request of a line.
-fn run_line(
-    rt: &impl Print,
-    number: u32,
-    line: &[u8],
-    sheets: &[u8],
-    entries: &[u8],
-    kept_entry: &mut [u8],
-    kept_table: &mut [u32],
-    stored_table: &mut [u32],
-) -> io::Result<()> {
-    let mut numbers = [0u32; 9];
-    if !read_numbers(line, &mut numbers) {
-        return print_fault(rt, number);
-    }
-    run_numbers(
-        rt,
-        number,
-        sheets,
-        entries,
-        &numbers,
-        kept_entry,
-        kept_table,
-        stored_table,
-    )
+fn run_line(line: &[u8], sheets: &[u8], entries: &[u8], kept: &mut Kept) -> Option<Lines> {
+    let request = read_request(line, sheets, entries)?;
+    run(&request, kept)
 }
 
-// The end of the line that starts at a position: 73 bytes further, or the text's end.
-fn line_end(start: usize, length: usize) -> usize
-    requires { start < length }
-    ensures { (start < result) × (result ≤ length) }
-{
-    if length - start < 73 {
-        return length;
-    }
-    start + 73
-}
-
-// Runs the request of each line. A kept entry may be one byte too long for the calls.
-fn run_lines(
-    rt: &impl Print,
-    questions: &[u8],
-    sheets: &[u8],
-    entries: &[u8],
-    stored_table: &mut [u32],
-) -> io::Result<()> {
-    let mut kept_entry = [0u8; 4097];
-    let mut kept_table = [0u32; 65536];
-    let mut number: u32 = 0;
-    let mut at: usize = 0;
-    while at < questions.len() {
-        let end = line_end(at, questions.len());
-        number = number % 99999999 + 1;
-        run_line(
-            rt,
-            number,
-            &questions[at..end],
-            sheets,
-            entries,
-            &mut kept_entry,
-            &mut kept_table,
-            stored_table,
-        )?;
-        at = end;
+// Runs the request of each line.
+fn run_lines(rt: &impl Print, questions: &[u8], sheets: &[u8], entries: &[u8]) -> io::Result<()> {
+    let mut kept = Kept {
+        entry: [0; 4097],
+        table: [0; 65536],
+        stored: [0; 65536],
+    };
+    for (i, line) in questions.chunks(73).enumerate() {
+        let number = (i % 99999999) as u32 + 1;
+        let (first, second) = run_line(line, sheets, entries, &mut kept).unwrap_or((FAULT, None));
+        print_line(rt, number, first)?;
+        if let Some(line) = second {
+            print_line(rt, number, line)?;
+        }
     }
     Ok(())
 }
 
 // Runs all requests, and prints how many bytes were read of each file.
 fn run_all(rt: &impl Print, questions: &[u8], sheets: &[u8], entries: &[u8]) -> io::Result<()> {
-    let mut stored_table = [0u32; 65536];
-    run_lines(rt, questions, sheets, entries, &mut stored_table)?;
-    let read = Four(
-        low_digits(sheets.len()),
-        low_digits(entries.len()),
-        low_digits(questions.len()),
-        0,
-    );
-    print_answer(rt, 0, 5, read, 0)
-}
-
-// Reads until the buffer is full, the input ends or a read fails; the count of bytes that were read.
-fn read_full<R: Read>(reader: &mut R, buffer: &mut [u8]) -> usize
-    ensures { IsPrefixLen result buffer.new }
-{
-    let mut done = 0;
-    while done < buffer.len() {
-        match reader.read(&mut buffer[done..]) {
-            Ok(0) | Err(_) => break,
-            Ok(n) => done += n,
-        }
-    }
-    done
-}
-
-// The bytes of a file, as far as the buffer goes; none where it cannot be opened.
-fn load(rt: &impl Files, name: &str, buffer: &mut [u8]) -> usize
-    ensures { IsPrefixLen result buffer.new }
-{
-    match fs::open(rt, name) {
-        Ok(mut file) => read_full(&mut file, buffer),
-        Err(_) => 0,
-    }
-}
-
-fn load_questions(rt: &(impl Files + Print), sheets: &[u8], entries: &[u8]) -> io::Result<()> {
-    let mut questions = [0u8; 262144];
-    let length = load(rt, "questions.txt", &mut questions);
-    run_all(rt, &questions[..length], sheets, entries)
-}
-
-fn load_entries(rt: &(impl Files + Print), sheets: &[u8]) -> io::Result<()> {
-    let mut entries = [0u8; 262144];
-    let length = load(rt, "entries", &mut entries);
-    load_questions(rt, sheets, &entries[..length])
+    run_lines(rt, questions, sheets, entries)?;
+    let end = Kind::End as u32;
+    let sheets_end = low_digits(sheets.len());
+    let entries_end = low_digits(entries.len());
+    let questions_end = low_digits(questions.len());
+    print_fields(rt, &[0, end, sheets_end, entries_end, questions_end, 0, 0])
 }
 
 // A file that is longer than its buffer is cut, which the last line of the output shows.
 fn main(rt: HostRuntime) -> io::Result<()> {
     let mut sheets = [0u8; 262144];
-    let length = load(&rt, "sheets.txt", &mut sheets);
-    load_entries(&rt, &sheets[..length])
+    let mut entries = [0u8; 262144];
+    let mut questions = [0u8; 262144];
+    let sheets_end = load(&rt, "sheets.txt", &mut sheets);
+    let entries_end = load(&rt, "entries", &mut entries);
+    let questions_end = load(&rt, "questions.txt", &mut questions);
+    run_all(
+        &rt,
+        &questions[..questions_end],
+        &sheets[..sheets_end],
+        &entries[..entries_end],
+    )
 }
