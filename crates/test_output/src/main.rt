@@ -3,65 +3,44 @@
 #![tactic(auto)]
 
 use columns::{Cursor, Field};
-use output::program::{print, read_full};
+use loading::read_full;
+use output::program::print;
 use std::io;
 
-// The case whose sheet begins at a position; the position behind it, or the end where it is not there whole.
-fn answer_from(
-    rt: &impl Print,
-    text: &[u8],
-    at: usize,
-    sheet_length: usize,
-    input_length: usize,
-) -> io::Result<usize> {
-    let end = text.len();
-    if end < at {
-        return Ok(end);
-    }
-    if end - at < sheet_length {
-        return Ok(end);
-    }
-    let middle = at + sheet_length;
-    if end - middle < input_length {
-        return Ok(end);
-    }
-    let next = middle + input_length;
-    print(rt, &text[at..middle], &text[middle..next])?;
-    Ok(next)
+// A sheet and an input, and what stands behind them.
+#[derive(Clone, Copy)]
+struct Case<'a> {
+    sheet: &'a [u8],
+    input: &'a [u8],
+    behind: &'a [u8],
 }
 
-// The case at a position; the position behind it, or the end where no case stands here.
-fn answer_at(rt: &impl Print, text: &[u8], at: usize) -> io::Result<usize> {
-    let end = text.len();
-    let start = Cursor { at };
-    let Field::Number(sheet_length, middle) = start.eight(text) else {
-        return Ok(end);
+// The case at the start of a text; nothing where no case stands here whole.
+fn first_case(text: &[u8]) -> Option<Case<'_>> {
+    let Field::Number(sheet_length, middle) = (Cursor { at: 0 }).eight(text) else {
+        return None;
     };
     let Field::Number(input_length, _) = middle.eight(text) else {
-        return Ok(end);
+        return None;
     };
-    if end < 17 {
-        return Ok(end);
-    }
-    if end - 17 < at {
-        return Ok(end);
-    }
-    answer_from(
-        rt,
-        text,
-        at + 17,
-        sheet_length as usize,
-        input_length as usize,
-    )
+    let (sheet, rest) = text.get(17..)?.split_at_checked(sheet_length as usize)?;
+    let (input, behind) = rest.split_at_checked(input_length as usize)?;
+    Some(Case {
+        sheet,
+        input,
+        behind,
+    })
 }
 
 // As many cases as there are, up to a hundred.
 fn answer_all(rt: &impl Print, text: &[u8]) -> io::Result<()> {
-    let mut at: usize = 0;
-    let mut turns: u32 = 100;
-    while turns > 0 {
-        at = answer_at(rt, text, at)?;
-        turns -= 1;
+    let mut rest = text;
+    for _ in 0..100 {
+        let Some(case) = first_case(rest) else {
+            break;
+        };
+        print(rt, case.sheet, case.input)?;
+        rest = case.behind;
     }
     Ok(())
 }
