@@ -17,23 +17,22 @@
 // After the requests come four long texts that are made here, with the number 0.
 #![tactic(auto)]
 
-ghost use Rattle.std.specs.Counts.{IsPrefixLen};
-
 use columns::{Cursor, Field};
 use finish::Answer;
-use grammar::sheet::Sheet;
+use grammar::sheet::{Sheet, read_sheet};
+use loading::load;
 use rows::write_field;
 use shorthand::Compiled;
-use std::io::Read;
-use std::rt::Files;
-use std::{fs, io};
+use std::io;
 
 // What stands in an output before a call.
 const UNTOUCHED: u8 = 42;
 
-// What is asked beside a text and an entry: the length of the output, and the bounds of V.
-#[derive(Drop)]
-struct Request {
+// What is asked: a text and an entry, the length of the output, and the bounds of V.
+#[derive(Clone, Copy)]
+struct Request<'a> {
+    text: &'a [u8],
+    entry: &'a [u8],
     room: u32,
     least: u32,
     greatest: u32,
@@ -45,35 +44,21 @@ fn print_field(rt: &impl Print, x: u32) -> io::Result<()> {
     rt.write_all(&field)
 }
 
-// 1 where all bytes from a position on are untouched, else 0.
-fn untouched(out: &[u8], from: usize) -> u32 {
-    let mut i = from;
-    while i < out.len() {
-        if out[i] != UNTOUCHED {
-            return 0;
-        }
-        i += 1;
-    }
-    1
+// 1 where all bytes are untouched, else 0.
+fn untouched(bytes: &[u8]) -> u32 {
+    u32::from(bytes.iter().all(|b| *b == UNTOUCHED))
 }
 
-// The outcome of a variable at a position.
-fn print_outcome(
-    rt: &impl Print,
-    sheet: &[u8],
-    input: &[u8],
-    variable: u32,
-    position: u32,
-) -> io::Result<()> {
+// The outcome of a variable at a position, as it is printed.
+fn outcome(sheet: &[u8], entry: &[u8], variable: u32, position: u32) -> u32 {
     let mut table = [0u32; 8192];
     let mut work = [0u32; 4096];
-    let answer = memo::question(sheet, input, variable, position, &mut table, &mut work);
-    match answer {
-        Answer::Success(end, _) => print_field(rt, 5 + end % 65536),
-        Answer::Failure(_) => print_field(rt, 1),
-        Answer::Loop(_, _, _) => print_field(rt, 2),
-        Answer::Missing(_, _, _) => print_field(rt, 3),
-        Answer::Refused(_, _) => print_field(rt, 0),
+    match memo::question(sheet, entry, variable, position, &mut table, &mut work) {
+        Answer::Success(end, _) => 5 + end % 65536,
+        Answer::Failure(_) => 1,
+        Answer::Loop(_, _, _) => 2,
+        Answer::Missing(_, _, _) => 3,
+        Answer::Refused(_, _) => 0,
     }
 }
 
@@ -82,128 +67,101 @@ fn print_outcomes(
     rt: &impl Print,
     number: u32,
     sheet: &[u8],
-    input: &[u8],
+    entry: &[u8],
     variable: u32,
 ) -> io::Result<()> {
     print_field(rt, number)?;
     print_field(rt, variable)?;
-    let last = (input.len() % 65536) as u32;
-    let mut position: u32 = 0;
-    while position <= last {
-        print_outcome(rt, sheet, input, variable, position)?;
-        position += 1;
+    let last = (entry.len() % 65536) as u32;
+    for position in 0..=last {
+        print_field(rt, outcome(sheet, entry, variable, position))?;
     }
     rt.write_all(b"\n")
 }
 
 // What is printed of an accepted text behind the first three fields.
-fn print_sheet(
-    rt: &impl Print,
-    number: u32,
-    sheet: &[u8],
-    input: &[u8],
-    r: Request,
-) -> io::Result<()> {
+fn print_sheet(rt: &impl Print, number: u32, asked: &Request<'_>, sheet: &[u8]) -> io::Result<()> {
     let mut rules = [0u32; 256];
-    let Sheet::Read(grammar) = grammar::sheet::read_sheet(sheet, &mut rules) else {
+    let Sheet::Read(grammar) = read_sheet(sheet, &mut rules) else {
         return Ok(());
     };
-    let variables = grammar.variables;
-    print_field(rt, (r.least <= variables && variables <= r.greatest) as u32)?;
-    print_field(rt, (grammar.start == 1 && grammar.endmarker == 46) as u32)?;
+    let bounds = asked.least..=asked.greatest;
+    print_field(rt, u32::from(bounds.contains(&grammar.variables)))?;
+    print_field(rt, u32::from(grammar.start == 1 && grammar.endmarker == 46))?;
     rt.write_all(b"\n")?;
-    let letters = r.least;
-    let mut variable: u32 = 0;
-    while variable < letters {
-        variable += 1;
-        print_outcomes(rt, number, sheet, input, variable)?;
+    for variable in 1..=asked.least {
+        print_outcomes(rt, number, sheet, asked.entry, variable)?;
     }
     Ok(())
 }
 
-// Compiles a text into an untouched output, and prints the answer.
-fn run(
-    rt: &impl Print,
-    number: u32,
-    text: &[u8],
-    input: &[u8],
-    r: Request,
-    out: &mut [u8],
-) -> io::Result<()> {
-    let room = r.room as usize;
-    if out.len() < room {
+// Compiles a text into an untouched output, and prints the answer; nothing where the output has no such room.
+fn run(rt: &impl Print, number: u32, asked: &Request<'_>) -> io::Result<()> {
+    let mut out = [UNTOUCHED; 8192];
+    let Some(lent) = out.get_mut(..asked.room as usize) else {
         return Ok(());
-    }
+    };
     print_field(rt, number)?;
-    let compiled = shorthand::compile(text, &mut out[0..room]);
-    match compiled {
+    match shorthand::compile(asked.text, lent) {
         Compiled::Refused(refusal, _) => {
             print_field(rt, refusal)?;
-            print_field(rt, untouched(out, 0))?;
-            rt.write_all(b"\n")?;
+            print_field(rt, untouched(&out))?;
+            rt.write_all(b"\n")
         }
         Compiled::Length(length) => {
             print_field(rt, 0)?;
-            print_field(rt, untouched(out, length))?;
-            if length <= out.len() {
-                print_sheet(rt, number, &out[0..length], input, r)?;
+            print_field(rt, untouched(out.get(length..).unwrap_or(&[])))?;
+            match out.get(..length) {
+                Some(sheet) => print_sheet(rt, number, asked, sheet),
+                None => Ok(()),
             }
         }
     }
-    Ok(())
 }
 
-// The number in a field of 8 columns, 0 where there is none.
-fn field(line: &[u8], at: usize) -> u32 {
-    let cursor = Cursor { at };
-    let Field::Number(x, _) = cursor.eight(line) else {
-        return 0;
-    };
-    x
+// The seven numbers of a line; 0 for a field that holds none.
+fn read_numbers(line: &[u8]) -> [u32; 7] {
+    let mut numbers = [0; 7];
+    for (i, number) in numbers.iter_mut().enumerate() {
+        if let Field::Number(x, _) = (Cursor { at: 8 * i }).eight(line) {
+            *number = x;
+        }
+    }
+    numbers
 }
 
-// Runs the request of a line.
-fn run_line(
-    rt: &impl Print,
-    number: u32,
-    line: &[u8],
-    texts: &[u8],
-    entries: &[u8],
-) -> io::Result<()> {
-    let text = field(line, 0) as usize;
-    let text_end = text + field(line, 8) as usize;
-    if texts.len() < text_end {
-        return Ok(());
-    }
-    let entry = field(line, 16) as usize;
-    let entry_end = entry + field(line, 24) as usize;
-    if entries.len() < entry_end {
-        return Ok(());
-    }
-    let r = Request {
-        room: field(line, 32),
-        least: field(line, 40),
-        greatest: field(line, 48),
-    };
-    let mut out = [UNTOUCHED; 8192];
-    run(
-        rt,
-        number,
-        &texts[text..text_end],
-        &entries[entry..entry_end],
-        r,
-        &mut out,
-    )
+// The part of a text that starts so far in and is so long.
+fn part(text: &[u8], start: u32, length: u32) -> Option<&[u8]> {
+    text.get(start as usize..)?.get(..length as usize)
+}
+
+// The request of a line; nothing where it reaches out of the files.
+fn read_request<'a>(line: &[u8], texts: &'a [u8], entries: &'a [u8]) -> Option<Request<'a>> {
+    let [
+        text,
+        text_length,
+        entry,
+        entry_length,
+        room,
+        least,
+        greatest,
+    ] = read_numbers(line);
+    Some(Request {
+        text: part(texts, text, text_length)?,
+        entry: part(entries, entry, entry_length)?,
+        room,
+        least,
+        greatest,
+    })
 }
 
 // Runs the request of each line of 57 bytes.
 fn run_lines(rt: &impl Print, requests: &[u8], texts: &[u8], entries: &[u8]) -> io::Result<()> {
-    let mut number: u32 = 0;
-    let mut at: usize = 0;
-    while 57 <= requests.len() - at {
-        number = number % 99999999 + 1;
-        run_line(rt, number, &requests[at..at + 57], texts, entries)?;
-        at += 57;
+    for (i, line) in requests.chunks_exact(57).enumerate() {
+        let number = (i % 99999999) as u32 + 1;
+        if let Some(request) = read_request(line, texts, entries) {
+            run(rt, number, &request)?;
+        }
     }
     Ok(())
 }
@@ -214,37 +172,14 @@ fn run_long(rt: &impl Print, byte: u8, last: u8) -> io::Result<()> {
     text[0] = b'A';
     text[1] = b'=';
     text[199999] = last;
-    let r = Request {
+    let asked = Request {
+        text: &text,
+        entry: b"",
         room: 8192,
         least: 0,
         greatest: 0,
     };
-    let mut out = [UNTOUCHED; 8192];
-    run(rt, 0, &text, b"", r, &mut out)
-}
-
-// Reads until the buffer is full, the input ends or a read fails; the count of bytes that were read.
-fn read_full<R: Read>(reader: &mut R, buffer: &mut [u8]) -> usize
-    ensures { IsPrefixLen result buffer.new }
-{
-    let mut done = 0;
-    while done < buffer.len() {
-        match reader.read(&mut buffer[done..]) {
-            Ok(0) | Err(_) => break,
-            Ok(n) => done += n,
-        }
-    }
-    done
-}
-
-// The bytes of a file, as far as the buffer goes; none where it cannot be opened.
-fn load(rt: &impl Files, name: &str, buffer: &mut [u8]) -> usize
-    ensures { IsPrefixLen result buffer.new }
-{
-    match fs::open(rt, name) {
-        Ok(mut file) => read_full(&mut file, buffer),
-        Err(_) => 0,
-    }
+    run(rt, 0, &asked)
 }
 
 fn main(rt: HostRuntime) -> io::Result<()> {
@@ -260,8 +195,8 @@ fn main(rt: HostRuntime) -> io::Result<()> {
         &texts[..texts_end],
         &entries[..entries_end],
     )?;
-    run_long(&rt, b'/', 10)?;
-    run_long(&rt, b'%', 10)?;
+    run_long(&rt, b'/', b'\n')?;
+    run_long(&rt, b'%', b'\n')?;
     run_long(&rt, b'/', b'/')?;
     run_long(&rt, b'%', b'%')
 }
