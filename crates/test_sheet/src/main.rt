@@ -3,8 +3,8 @@
 // and the endmarker byte.
 #![tactic(auto)]
 
-use columns::{Cursor, Field};
-use grammar::sheet::{Sheet, read_sheet};
+use columns::Cursor;
+use grammar::sheet::read_sheet;
 use loading::read_full;
 use rows::write_field;
 use std::io;
@@ -18,11 +18,11 @@ fn print_field(rt: &impl Print, x: u32) -> io::Result<()> {
 fn print_answer(rt: &impl Print, s: &[u8]) -> io::Result<()> {
     let mut rules = [0u32; 256];
     match read_sheet(s, &mut rules) {
-        Sheet::Refused(number, line) => {
-            print_field(rt, number)?;
-            print_field(rt, line)?;
+        Err(refusal) => {
+            print_field(rt, refusal.number())?;
+            print_field(rt, refusal.line())?;
         }
-        Sheet::Read(grammar) => {
+        Ok(grammar) => {
             print_field(rt, 0)?;
             print_field(rt, grammar.variables)?;
             print_field(rt, grammar.start)?;
@@ -34,9 +34,7 @@ fn print_answer(rt: &impl Print, s: &[u8]) -> io::Result<()> {
 
 // The sheet of the case at the start of a text, and what stands behind it; nothing where no case stands here.
 fn first_case(text: &[u8]) -> Option<(&[u8], &[u8])> {
-    let Field::Number(length, _) = (Cursor { at: 0 }).eight(text) else {
-        return None;
-    };
+    let (length, _) = Cursor { at: 0 }.field::<8>(text)?;
     text.get(9..)?.split_at_checked(length as usize)
 }
 
