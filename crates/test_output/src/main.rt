@@ -2,7 +2,7 @@
 // each what `readentry` prints.
 #![tactic(auto)]
 
-use columns::{Cursor, Field};
+use columns::fields;
 use loading::read_full;
 use output::program::print;
 use std::io;
@@ -17,12 +17,7 @@ struct Case<'a> {
 
 // The case at the start of a text; nothing where no case stands here whole.
 fn first_case(text: &[u8]) -> Option<Case<'_>> {
-    let Field::Number(sheet_length, middle) = (Cursor { at: 0 }).eight(text) else {
-        return None;
-    };
-    let Field::Number(input_length, _) = middle.eight(text) else {
-        return None;
-    };
+    let [sheet_length, input_length] = fields::<2, 8>(text, 0)?;
     let (sheet, rest) = text.get(17..)?.split_at_checked(sheet_length as usize)?;
     let (input, behind) = rest.split_at_checked(input_length as usize)?;
     Some(Case {
