@@ -52,15 +52,15 @@
 // one that is written to is filled. A table's sum is over outcomes and reaches alike.
 #![tactic(auto)]
 
-use archive::Stored;
 use backtrack::Ending;
-use checker::Claim;
-use columns::{Cursor, Field};
+use checker::{Claim, Rejection};
+use columns::fields;
 use finish::Answer;
+use grammar::refusal::Refusal;
 use loading::load;
-use opening::Prefix;
 use rows::write_row;
 use std::{io, mem};
+use writer::Written;
 
 // What stands in a table and in an output before a call.
 const UNTOUCHED_NUMBER: u32 = 77777;
@@ -195,7 +195,6 @@ impl From<Answer> for Four {
             Answer::Missing(variable, position, count) => {
                 Four(Code::Missing, variable, position, count)
             }
-            Answer::Refused(number, line) => Four(Code::Refused, number, line, 0),
         }
     }
 }
@@ -208,7 +207,6 @@ impl From<Ending> for Four {
             Ending::Missing(moves) => Four(Code::Missing, 0, 0, moves),
             Ending::Spent(moves) => Four(Code::Spent, 0, 0, moves),
             Ending::NoFrame(moves) => Four(Code::NoFrame, 0, 0, moves),
-            Ending::Refused(number, line) => Four(Code::Refused, number, line, 0),
         }
     }
 }
@@ -218,26 +216,50 @@ impl From<Claim> for Four {
         match claim {
             Claim::Success(end) => Four(Code::Done, 0, end, 0),
             Claim::Failure(end) => Four(Code::Failure, 0, end, 0),
-            Claim::Refused(number, line) => Four(Code::Refused, number, low_digits(line), 0),
         }
     }
 }
 
-impl From<Prefix> for Four {
-    fn from(prefix: Prefix) -> Four {
-        match prefix {
-            Prefix::Least(m) => Four(Code::Loop, 0, m, 0),
-            Prefix::None => Four(Code::NoOpening, 0, 0, 0),
-            Prefix::Refused(number, line) => Four(Code::Refused, number, line, 0),
+impl From<Option<u32>> for Four {
+    fn from(opening: Option<u32>) -> Four {
+        match opening {
+            Some(m) => Four(Code::Loop, 0, m, 0),
+            None => Four(Code::NoOpening, 0, 0, 0),
         }
     }
 }
 
-impl From<Stored> for Four {
-    fn from(stored: Stored) -> Four {
-        match stored {
-            Stored::Done => Four(Code::Done, 0, 0, 0),
-            Stored::Refused(number, line) => Four(Code::Refused, number, line, 0),
+impl From<()> for Four {
+    fn from(_: ()) -> Four {
+        Four(Code::Done, 0, 0, 0)
+    }
+}
+
+impl From<Written> for Four {
+    fn from(written: Written) -> Four {
+        Four::from(written.answer).counting(written.lines)
+    }
+}
+
+impl From<Refusal> for Four {
+    fn from(refusal: Refusal) -> Four {
+        Four(Code::Refused, refusal.number(), refusal.line(), 0)
+    }
+}
+
+impl From<Rejection> for Four {
+    fn from(rejection: Rejection) -> Four {
+        let line = low_digits(rejection.line());
+        Four(Code::Refused, rejection.number(), line, 0)
+    }
+}
+
+// What a call answers, or why it is refused.
+impl<T: Into<Four>, E: Into<Four>> From<Result<T, E>> for Four {
+    fn from(told: Result<T, E>) -> Four {
+        match told {
+            Ok(answer) => answer.into(),
+            Err(refusal) => refusal.into(),
         }
     }
 }
@@ -399,8 +421,8 @@ fn check(asked: &Request<'_>, out: &[u8], lines: u32) -> Line {
     }
 }
 
-// Writes a reading: the line about it, and the count of its lines.
-fn write(asked: &Request<'_>, table: &mut [u32], work: &mut [u32], out: &mut [u8]) -> (Line, u32) {
+// Writes a reading: the line about it, with the count of its lines.
+fn write(asked: &Request<'_>, table: &mut [u32], work: &mut [u32], out: &mut [u8]) -> Line {
     out.fill(UNTOUCHED_BYTE);
     let written = writer::write(
         asked.sheet,
@@ -411,12 +433,11 @@ fn write(asked: &Request<'_>, table: &mut [u32], work: &mut [u32], out: &mut [u8
         work,
         out,
     );
-    let line = Line {
+    Line {
         kind: Kind::Writer,
-        four: Four::from(written.answer).counting(written.lines),
+        four: Four::from(written),
         sum: sum_of(out),
-    };
-    (line, written.lines)
+    }
 }
 
 // Task 2.
@@ -429,8 +450,8 @@ fn run_reading(
     let table = table.get_mut(..asked.x as usize)?;
     let work = work.get_mut(..cells_of(asked.x as usize))?;
     let out = out.get_mut(..asked.y as usize)?;
-    let (line, lines) = write(asked, table, work, out);
-    Some((line, Some(check(asked, out, lines))))
+    let line = write(asked, table, work, out);
+    Some((line, Some(check(asked, out, line.four.3))))
 }
 
 // Checks a reading of which one byte is made another.
@@ -442,11 +463,9 @@ fn check_damaged(asked: &Request<'_>, out: &mut [u8], lines: u32) -> Option<Line
 
 // Task 3.
 fn run_damage(asked: &Request<'_>, table: &mut [u32], work: &mut [u32], out: &mut [u8]) -> Lines {
-    let (line, lines) = write(asked, table, work, out);
-    (
-        line,
-        Some(check_damaged(asked, out, lines).unwrap_or(FAULT)),
-    )
+    let line = write(asked, table, work, out);
+    let checked = check_damaged(asked, out, line.four.3);
+    (line, Some(checked.unwrap_or(FAULT)))
 }
 
 // Tasks 2 and 3, with a table of 32,768 cells and an output.
@@ -593,16 +612,7 @@ fn read_numbers(line: &[u8]) -> Option<[u32; 9]> {
     if line.len() != 73 || line[72] != b'\n' {
         return None;
     }
-    let mut numbers = [0; 9];
-    let mut cursor = Cursor { at: 0 };
-    for number in &mut numbers {
-        let Field::Number(x, next) = cursor.eight(line) else {
-            return None;
-        };
-        *number = x;
-        cursor = next;
-    }
-    Some(numbers)
+    fields::<9, 8>(line, 0)
 }
 
 // The part of a text that starts so far in and is so long.
