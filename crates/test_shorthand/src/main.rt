@@ -17,12 +17,11 @@
 // After the requests come four long texts that are made here, with the number 0.
 #![tactic(auto)]
 
-use columns::{Cursor, Field};
+use columns::Cursor;
 use finish::Answer;
-use grammar::sheet::{Sheet, read_sheet};
+use grammar::sheet::read_sheet;
 use loading::load;
 use rows::write_field;
-use shorthand::Compiled;
 use std::io;
 
 // What stands in an output before a call.
@@ -54,11 +53,11 @@ fn outcome(sheet: &[u8], entry: &[u8], variable: u32, position: u32) -> u32 {
     let mut table = [0u32; 8192];
     let mut work = [0u32; 4096];
     match memo::question(sheet, entry, variable, position, &mut table, &mut work) {
-        Answer::Success(end, _) => 5 + end % 65536,
-        Answer::Failure(_) => 1,
-        Answer::Loop(_, _, _) => 2,
-        Answer::Missing(_, _, _) => 3,
-        Answer::Refused(_, _) => 0,
+        Ok(Answer::Success(end, _)) => 5 + end % 65536,
+        Ok(Answer::Failure(_)) => 1,
+        Ok(Answer::Loop(..)) => 2,
+        Ok(Answer::Missing(..)) => 3,
+        Err(_) => 0,
     }
 }
 
@@ -82,7 +81,7 @@ fn print_outcomes(
 // What is printed of an accepted text behind the first three fields.
 fn print_sheet(rt: &impl Print, number: u32, asked: &Request<'_>, sheet: &[u8]) -> io::Result<()> {
     let mut rules = [0u32; 256];
-    let Sheet::Read(grammar) = read_sheet(sheet, &mut rules) else {
+    let Ok(grammar) = read_sheet(sheet, &mut rules) else {
         return Ok(());
     };
     let bounds = asked.least..=asked.greatest;
@@ -103,12 +102,12 @@ fn run(rt: &impl Print, number: u32, asked: &Request<'_>) -> io::Result<()> {
     };
     print_field(rt, number)?;
     match shorthand::compile(asked.text, lent) {
-        Compiled::Refused(refusal, _) => {
-            print_field(rt, refusal)?;
+        Err(refusal) => {
+            print_field(rt, refusal.number())?;
             print_field(rt, untouched(&out))?;
             rt.write_all(b"\n")
         }
-        Compiled::Length(length) => {
+        Ok(length) => {
             print_field(rt, 0)?;
             print_field(rt, untouched(out.get(length..).unwrap_or(&[])))?;
             match out.get(..length) {
@@ -123,7 +122,7 @@ fn run(rt: &impl Print, number: u32, asked: &Request<'_>) -> io::Result<()> {
 fn read_numbers(line: &[u8]) -> [u32; 7] {
     let mut numbers = [0; 7];
     for (i, number) in numbers.iter_mut().enumerate() {
-        if let Field::Number(x, _) = (Cursor { at: 8 * i }).eight(line) {
+        if let Some((x, _)) = (Cursor { at: 8 * i }).field::<8>(line) {
             *number = x;
         }
     }
