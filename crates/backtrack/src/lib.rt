@@ -41,6 +41,9 @@ enum Move {
     Push(bool, u32, u32, u32),
 }
 
+// What a move comes to: the registers after it, or what ends the run before it.
+type Turn = ControlFlow<Ending, Registers>;
+
 // Where a call comes back to: the position on success, the start on failure.
 fn back(x: Registers, start: u32) -> u32
     ensures { result ≡ cond x.flag x.position start }
@@ -118,13 +121,7 @@ fn push(frames: &mut [u32], depth: usize, stage: u32, variable: u32, position: u
 }
 
 // One move; or what ends the run before it: an outcome, else spent, else no frame.
-fn advance(
-    rules: &Rules,
-    input: &[u8],
-    frames: &mut [u32],
-    x: Registers,
-    budget: u32,
-) -> ControlFlow<Ending, Registers>
+fn advance(rules: &Rules, input: &[u8], frames: &mut [u32], x: Registers, budget: u32) -> Turn
     requires { (length input.now ≤ 4096) × (x.moves ≤ budget) × Valid (rule_in rules.now) frames.old x }
     ensures { Turns (rule_in rules.now) input.now budget (length frames.old / 3) (state_in frames.old x) frames.new result }
 {

@@ -29,7 +29,7 @@ fn report_sheet(sheet: Result<Grammar, Refusal>, out: &mut [u32; 4]) -> u32
         }
         Err(refusal) => {
             *out = [refusal.number(), refusal.line(), 0, 0];
-            100 + refusal.number()
+            code(Err(refusal.number()))
         }
     }
 }

@@ -2,8 +2,8 @@
 ghost use Rattle.std.specs.Prelude.{◌≡◌};
 ghost use Rattle.grammar.specs.Numbers.{number_of, line_of};
 
-// A refusal, named after what is at fault, in the order of the numbers (document 01, "Who can bring on which number"; document 02). What names a line
-// of a sheet has that line, counted from 1.
+// A refusal, named after what is at fault, in the order of the numbers (document 01, "Who can bring on which number"; document 02). A case
+// that names a line of the sheet carries it, counted from 1.
 #[derive(Clone, Copy, PartialEq, Eq)]
 pub enum Refusal {
     NotLines,

@@ -33,7 +33,7 @@ impl Rule {
     }
 }
 
-// The rule of a word: of any word that is no rule's, that there is none.
+// The rule of a word, by its first byte; where that is no kind's, that there is none.
 impl From<u32> for Rule {
     ghost from_gives = { λ w rule. rule_held rule ≡ rule_for w };
 

@@ -77,8 +77,8 @@ fn end_blank(table: &[u32], start: usize, n: usize) -> bool
     block_blank(table, start + (n + 1 - BLOCK))
 }
 
-// Looks at the cells of a row from one position to another: a position before which nothing is blanked, the one that was found before them or theirs; or
-// refusal 19. The row begins at a number. There is no branch in the loop and the limit has 32 bits, so that the compiler tests several cells at once.
+// Looks at the cells of a row from one position to another: a position before which nothing is blanked, the lesser of `first` and
+// theirs; or refusal 19. The row begins at a number. There is no branch in the loop and the limit has 32 bits, so that the compiler tests several cells at once.
 fn look(
     table: &[u32],
     start: usize,
