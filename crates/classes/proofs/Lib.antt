@@ -1,2 +1,3 @@
 -- Laws of the classes of bytes.
+pub mod ClassTable
 pub mod Disjoint
