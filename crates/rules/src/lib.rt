@@ -49,18 +49,28 @@ fn class_at(input: &[u8], position: u32) -> Option<u8>
     byte_at(input, position).map(class_of)
 }
 
-// What the rule of a variable does at a position, the rules given as words.
-pub fn act_at(rules: &Rules, input: &[u8], variable: u32, position: u32) -> Act
-    requires { (1 ≤ variable) × (variable ≤ 256) × (length input.now ≤ 4096) }
-    ensures { told result ≡ act (rule_in rules.now) input.now (variable at position) }
-{
-    match Rule::from(rules[variable as usize - 1]) {
-        Rule::Call(b, c, d) => Act::Calls(b, c, d),
-        Rule::Byte(wanted) => one_byte(position, byte_at(input, position), wanted),
-        Rule::Class(wanted) => one_byte(position, class_at(input, position), wanted),
-        Rule::Always => Act::Success(position),
-        Rule::Never => Act::Failure,
-        Rule::Absent => Act::Missing,
+// The system of calls that the rules of a sheet, words of so many variables, make of an input.
+#[derive(Clone, Copy)]
+pub struct System<'a> {
+    pub rules: &'a Rules,
+    pub variables: u32,
+    pub input: &'a [u8],
+}
+
+impl<'a> System<'a> {
+    // What the rule of a variable does at a position.
+    pub fn act_at(self, variable: u32, position: u32) -> Act
+        requires { (1 ≤ variable) × (variable ≤ 256) × (length self.input.now ≤ 4096) }
+        ensures { told result ≡ act (rule_in self.entry.rules.now) self.entry.input.now (variable at position) }
+    {
+        match Rule::from(self.rules[variable as usize - 1]) {
+            Rule::Call(b, c, d) => Act::Calls(b, c, d),
+            Rule::Byte(wanted) => one_byte(position, byte_at(self.input, position), wanted),
+            Rule::Class(wanted) => one_byte(position, class_at(self.input, position), wanted),
+            Rule::Always => Act::Success(position),
+            Rule::Never => Act::Failure,
+            Rule::Absent => Act::Missing,
+        }
     }
 }
 
