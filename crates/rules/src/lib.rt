@@ -57,7 +57,7 @@ pub struct System<'a> {
     pub input: &'a [u8],
 }
 
-impl<'a> System<'a> {
+impl System<'_> {
     // What the rule of a variable does at a position.
     pub fn act_at(self, variable: u32, position: u32) -> Act
         requires { (1 ≤ variable) × (variable ≤ 256) × (length self.input.now ≤ 4096) }

@@ -12,7 +12,7 @@ ghost use Rattle.step.specs.Step.{top_of, called_of, StepReady, ToSecond, GoesBa
 
 use cells::{Caller, Cell, cell_number};
 use grammar::sheet::Rules;
-use rules::{Act, act_at, first_of, leaf_reach, second_of};
+use rules::{Act, System, first_of, leaf_reach, second_of};
 use std::ops::ControlFlow;
 use std::ops::ControlFlow::{Break, Continue};
 
@@ -146,23 +146,16 @@ fn settle_leaf(
 }
 
 // One step of the walk, where the called pair is not settled: a leaf is settled at once, and any other pair is opened.
-fn advance_unsettled(
-    rules: &Rules,
-    input: &[u8],
-    variables: u32,
-    table: &mut [u32],
-    work: &mut [u32],
-    x: State,
-) -> Step
-    requires { StepReady (rule_in rules.now) input.now variables table.old work.old x × Unsettled (held (length input.now) table.old (called_of x)) }
-    ensures { Steps (rule_in rules.now) input.now table.old work.old table.new work.new x result }
+fn advance_unsettled(system: System, table: &mut [u32], work: &mut [u32], x: State) -> Step
+    requires { StepReady (rule_in system.rules.now) system.input.now system.variables table.old work.old x × Unsettled (held (length system.input.now) table.old (called_of x)) }
+    ensures { Steps (rule_in system.entry.rules.now) system.entry.input.now table.old work.old table.new work.new x result }
 {
-    let n = input.len();
-    match act_at(rules, input, x.called, x.target) {
-        Act::Success(end) => settle_leaf(rules, n, table, work, x, Cell::success(end, end)),
+    let n = system.input.len();
+    match system.act_at(x.called, x.target) {
+        Act::Success(end) => settle_leaf(system.rules, n, table, work, x, Cell::success(end, end)),
         Act::Failure => {
-            let reach = leaf_reach(rules, x.called, x.target);
-            settle_leaf(rules, n, table, work, x, Cell::failure(reach))
+            let reach = leaf_reach(system.rules, x.called, x.target);
+            settle_leaf(system.rules, n, table, work, x, Cell::failure(reach))
         }
         Act::Calls(b, _, _) => {
             open_called(n, table, work, x);
@@ -183,30 +176,23 @@ fn advance_unsettled(
 }
 
 // One step of the walk: the called pair is looked up in the table.
-pub fn advance(
-    rules: &Rules,
-    input: &[u8],
-    variables: u32,
-    table: &mut [u32],
-    work: &mut [u32],
-    x: State,
-) -> Step
-    requires { StepReady (rule_in rules.now) input.now variables table.old work.old x }
-    ensures { Steps (rule_in rules.now) input.now table.old work.old table.new work.new x result }
+pub fn advance(system: System, table: &mut [u32], work: &mut [u32], x: State) -> Step
+    requires { StepReady (rule_in system.rules.now) system.input.now system.variables table.old work.old x }
+    ensures { Steps (rule_in system.entry.rules.now) system.entry.input.now table.old work.old table.new work.new x result }
 {
-    let n = input.len();
+    let n = system.input.len();
     let found = Cell::load(table, cell_number(n, x.called, x.target));
     if found.0 == Cell::FAILURE.0 {
-        return resume(rules, n, table, work, x, found);
+        return resume(system.rules, n, table, work, x, found);
     }
     if found.0 < Cell::SUCCESS.0 {
-        return advance_unsettled(rules, input, variables, table, work, x);
+        return advance_unsettled(system, table, work, x);
     }
     if found.0 == Cell::OPEN.0 {
         let end = Walk::Loop(x.called, x.target, x.variable, x.position, x.depth);
         return Break(end);
     }
-    resume(rules, n, table, work, x, found)
+    resume(system.rules, n, table, work, x, found)
 }
 
 // How many cells the next number of a pair's cell decides: one where it is blank.

@@ -26,7 +26,7 @@ success-requires c =
     let r = c.requires.0 in
     let b = step_bounds r in
     let e = sym c.act_at.ensures ∙ ap told c.in-Success.is in
-    let q = leaf_end (rule_in a.rules.now) a.input.now a.x.called a.x.target _ b.called_in.position e in
+    let q = leaf_end (rule_in a.system.rules.now) a.system.input.now a.x.called a.x.target _ b.called_in.position e in
     let w = r.walkable.short in
     omega arith
 
@@ -69,11 +69,11 @@ returns-in-Success c =
     let b = step_bounds r in
     let q = c.in-Success.end in
     let e = sym c.act_at.ensures ∙ ap told c.in-Success.is in
-    let l = leaf_end (rule_in a.rules.now) a.input.now a.x.called a.x.target q b.called_in.position e in
-    let f = c.success.ensures.1 ∙ success_reach (rule_in a.rules.now a.x.called) a.input.now a.x.target q e in
-    let s : Settled (length a.input.now) c.success.result.0 (success q) = record { code_is = c.success.ensures.0; ends = l } in
-    let far = sym (stored_reach a.table.now (cell (length a.input.now) (called_of a.x)) c.success.result.0 c.success.result.1 b.called_cell) in
-    steps_resume (rule_in a.rules.now) a.input.now a.table.now a.work.now a.x c.success.result {r = success q} s (leaf_settled c.requires.1 e s f) far r.called b.called_cell c.settle_leaf.result c.settle_leaf.ensures
+    let l = leaf_end (rule_in a.system.rules.now) a.system.input.now a.x.called a.x.target q b.called_in.position e in
+    let f = c.success.ensures.1 ∙ success_reach (rule_in a.system.rules.now a.x.called) a.system.input.now a.x.target q e in
+    let s : Settled (length a.system.input.now) c.success.result.0 (success q) = record { code_is = c.success.ensures.0; ends = l } in
+    let far = sym (stored_reach a.table.now (cell (length a.system.input.now) (called_of a.x)) c.success.result.0 c.success.result.1 b.called_cell) in
+    steps_resume (rule_in a.system.rules.now) a.system.input.now a.table.now a.work.now a.x c.success.result {r = success q} s (leaf_settled c.requires.1 e s f) far r.called b.called_cell c.settle_leaf.result c.settle_leaf.ensures
 
 pub returns-in-Failure : goal.returns-in-Failure
 returns-in-Failure c =
@@ -82,6 +82,6 @@ returns-in-Failure c =
     let b = step_bounds r in
     let e = sym c.act_at.ensures ∙ ap told c.in-Failure.is in
     let f = c.failure.ensures.1 ∙ c.leaf_reach-reach.ensures in
-    let s = failure_settled (length a.input.now) c.failure.result.0 c.failure.ensures.0 in
-    let far = sym (stored_reach a.table.now (cell (length a.input.now) (called_of a.x)) c.failure.result.0 c.failure.result.1 b.called_cell) in
-    steps_resume (rule_in a.rules.now) a.input.now a.table.now a.work.now a.x c.failure.result {r = failure} s (leaf_settled c.requires.1 e s f) far r.called b.called_cell c.settle_leaf-in-Failure.result c.settle_leaf-in-Failure.ensures
+    let s = failure_settled (length a.system.input.now) c.failure.result.0 c.failure.ensures.0 in
+    let far = sym (stored_reach a.table.now (cell (length a.system.input.now) (called_of a.x)) c.failure.result.0 c.failure.result.1 b.called_cell) in
+    steps_resume (rule_in a.system.rules.now) a.system.input.now a.table.now a.work.now a.x c.failure.result {r = failure} s (leaf_settled c.requires.1 e s f) far r.called b.called_cell c.settle_leaf-in-Failure.result c.settle_leaf-in-Failure.ensures
