@@ -14,8 +14,7 @@ ghost use Rattle.walk.specs.Over.{OverReady, Over};
 
 use cells::{Cell, cell_number};
 use finish::{Answer, finish};
-use grammar::sheet::Rules;
-use rules::{Act, act_at, leaf_reach};
+use rules::{Act, System, leaf_reach};
 use std::ops::ControlFlow::{Break, Continue};
 use step::{State, Walk, advance, newly};
 
@@ -28,18 +27,16 @@ struct Walked {
 
 // Walks on from the first call of an open pair, the only one, that calls b first.
 fn walk_on(
-    rules: &Rules,
-    input: &[u8],
+    system: System,
     variable: u32,
     position: u32,
     b: u32,
-    variables: u32,
     table: &mut [u32],
     work: &mut [u32],
 ) -> Walked
-    requires { WalkReady (rule_in rules.now) input.now variables variable position table.old work.old × ((C : ℕ) × (D : ℕ) × (act (rule_in rules.now) input.now (variable at position) ≡ calls b C D)) }
-    ensures ends { WalkEnds (rule_in rules.now) input.now variables (variable at position) (before (length input.now) (variable at position) table.old) table.new work.old work.new result.end }
-    ensures counts { Counts (cells variables (length input.now)) table.old table.new result.count }
+    requires { WalkReady (rule_in system.rules.now) system.input.now system.variables variable position table.old work.old × ((C : ℕ) × (D : ℕ) × (act (rule_in system.rules.now) system.input.now (variable at position) ≡ calls b C D)) }
+    ensures ends { WalkEnds (rule_in system.entry.rules.now) system.entry.input.now system.entry.variables (variable at position) (before (length system.entry.input.now) (variable at position) table.old) table.new work.old work.new result.end }
+    ensures counts { Counts (cells system.entry.variables (length system.entry.input.now)) table.old table.new result.count }
 {
     let mut x = State {
         variable,
@@ -51,8 +48,8 @@ fn walk_on(
     };
     let mut count: u32 = 0;
     loop {
-        count += newly(input.len(), table, x.called, x.target);
-        match advance(rules, input, variables, table, work, x) {
+        count += newly(system.input.len(), table, x.called, x.target);
+        match advance(system, table, work, x) {
             Continue(next) => x = next,
             Break(end) => return Walked { end, count },
         }
@@ -71,28 +68,26 @@ fn settle_asked(n: usize, variable: u32, position: u32, leaf: Cell, table: &mut 
 
 // Walks from an open pair, the only one, until it is settled, or a pair is met a second time, or one has no rule.
 fn walk_from(
-    rules: &Rules,
-    input: &[u8],
+    system: System,
     variable: u32,
     position: u32,
-    variables: u32,
     table: &mut [u32],
     work: &mut [u32],
 ) -> Walked
-    requires { WalkReady (rule_in rules.now) input.now variables variable position table.old work.old }
-    ensures ends { WalkEnds (rule_in rules.now) input.now variables (variable at position) (before (length input.now) (variable at position) table.old) table.new work.old work.new result.end }
-    ensures counts { Counts (cells variables (length input.now)) table.old table.new result.count }
+    requires { WalkReady (rule_in system.rules.now) system.input.now system.variables variable position table.old work.old }
+    ensures ends { WalkEnds (rule_in system.entry.rules.now) system.entry.input.now system.entry.variables (variable at position) (before (length system.entry.input.now) (variable at position) table.old) table.new work.old work.new result.end }
+    ensures counts { Counts (cells system.entry.variables (length system.entry.input.now)) table.old table.new result.count }
 {
-    match act_at(rules, input, variable, position) {
-        Act::Calls(b, _, _) => walk_on(rules, input, variable, position, b, variables, table, work),
+    match system.act_at(variable, position) {
+        Act::Calls(b, _, _) => walk_on(system, variable, position, b, table, work),
         Act::Success(end) => {
             let leaf = Cell::success(end, end);
-            let end = settle_asked(input.len(), variable, position, leaf, table);
+            let end = settle_asked(system.input.len(), variable, position, leaf, table);
             Walked { end, count: 0 }
         }
         Act::Failure => {
-            let leaf = Cell::failure(leaf_reach(rules, variable, position));
-            let end = settle_asked(input.len(), variable, position, leaf, table);
+            let leaf = Cell::failure(leaf_reach(system.rules, variable, position));
+            let end = settle_asked(system.input.len(), variable, position, leaf, table);
             Walked { end, count: 0 }
         }
         Act::Missing => Walked {
@@ -104,43 +99,39 @@ fn walk_from(
 
 // Asks about a pair whose cell holds no result, over the table as it is.
 fn walk_over(
-    rules: &Rules,
-    input: &[u8],
-    variables: u32,
+    system: System,
     variable: u32,
     position: u32,
     table: &mut [u32],
     work: &mut [u32],
 ) -> Answer
-    requires { OverReady (rule_in rules.now) input.now variables variable position table.old work.old × Unsettled (held (length input.now) table.old (variable at position)) }
-    ensures { Over (rule_in rules.now) variables input.now (variable at position) table.old table.new work.old work.new (reply_of result) }
+    requires { OverReady (rule_in system.rules.now) system.input.now system.variables variable position table.old work.old × Unsettled (held (length system.input.now) table.old (variable at position)) }
+    ensures { Over (rule_in system.entry.rules.now) system.entry.variables system.entry.input.now (variable at position) table.old table.new work.old work.new (reply_of result) }
 {
-    let n = input.len();
+    let n = system.input.len();
     let asked = newly(n, table, variable, position);
     Cell::OPEN.store(table, cell_number(n, variable, position));
-    let Walked { end, count } = walk_from(rules, input, variable, position, variables, table, work);
-    finish(n, variables, end, asked + count, table, work)
+    let Walked { end, count } = walk_from(system, variable, position, table, work);
+    finish(n, system.variables, end, asked + count, table, work)
 }
 
 // Asks about a pair over the table as it is: a result that its cell holds is the answer, and anything else is walked.
 pub fn ask_over(
-    rules: &Rules,
-    input: &[u8],
-    variables: u32,
+    system: System,
     variable: u32,
     position: u32,
     table: &mut [u32],
     work: &mut [u32],
 ) -> Answer
-    requires { OverReady (rule_in rules.now) input.now variables variable position table.old work.old }
-    ensures { Over (rule_in rules.now) variables input.now (variable at position) table.old table.new work.old work.new (reply_of result) }
+    requires { OverReady (rule_in system.rules.now) system.input.now system.variables variable position table.old work.old }
+    ensures { Over (rule_in system.entry.rules.now) system.entry.variables system.entry.input.now (variable at position) table.old table.new work.old work.new (reply_of result) }
 {
-    let asked = Cell::load(table, cell_number(input.len(), variable, position));
+    let asked = Cell::load(table, cell_number(system.input.len(), variable, position));
     if asked.0 == Cell::FAILURE.0 {
         return Answer::Failure(0);
     }
     if asked.0 < Cell::SUCCESS.0 {
-        return walk_over(rules, input, variables, variable, position, table, work);
+        return walk_over(system, variable, position, table, work);
     }
     Answer::Success(asked.0 - Cell::SUCCESS.0, 0)
 }

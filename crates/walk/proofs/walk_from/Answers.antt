@@ -18,7 +18,7 @@ success-leaf-requires c =
     let a = c.args in
     let r = c.requires in
     let e = sym c.act_at.ensures ∙ ap told c.in-Success.is in
-    let q = leaf_end (rule_in a.rules.now) a.input.now a.variable a.position _ r.within.position e in
+    let q = leaf_end (rule_in a.system.rules.now) a.system.input.now a.variable a.position _ r.within.position e in
     let w = r.walkable.short in
     omega arith
 
@@ -28,9 +28,9 @@ returns-in-Success c =
     let r = c.requires in
     let q = c.in-Success.end in
     let e = sym c.act_at.ensures ∙ ap told c.in-Success.is in
-    let l = leaf_end (rule_in a.rules.now) a.input.now a.variable a.position q r.within.position e in
-    let f = c.success-leaf.ensures.1 ∙ success_reach (rule_in a.rules.now a.variable) a.input.now a.position q e in
-    let s : Settled (length a.input.now) c.success-leaf.result.0 (success q) = record { code_is = c.success-leaf.ensures.0; ends = l } in
+    let l = leaf_end (rule_in a.system.rules.now) a.system.input.now a.variable a.position q r.within.position e in
+    let f = c.success-leaf.ensures.1 ∙ success_reach (rule_in a.system.rules.now a.variable) a.system.input.now a.position q e in
+    let s : Settled (length a.system.input.now) c.success-leaf.result.0 (success q) = record { code_is = c.success-leaf.ensures.0; ends = l } in
     rw (c.settle_asked-end.ensures.stores, c.settle_asked-end.ensures.ends) (record { ends = leaf_ends r c.success-leaf.result (success q) s e f; counts = asked_counts r c.success-leaf.result.0 c.success-leaf.result.1 (settled_full (success q) s) })
 
 pub returns-in-Failure : goal.returns-in-Failure
@@ -39,7 +39,7 @@ returns-in-Failure c =
     let r = c.requires in
     let e = sym c.act_at.ensures ∙ ap told c.in-Failure.is in
     let f = c.failure-leaf.ensures.1 ∙ c.leaf_reach.ensures in
-    let s = failure_settled (length a.input.now) c.failure-leaf.result.0 c.failure-leaf.ensures.0 in
+    let s = failure_settled (length a.system.input.now) c.failure-leaf.result.0 c.failure-leaf.ensures.0 in
     rw (c.settle_asked-end-in-Failure.ensures.stores, c.settle_asked-end-in-Failure.ensures.ends) (record { ends = leaf_ends r c.failure-leaf.result failure s e f; counts = asked_counts r c.failure-leaf.result.0 c.failure-leaf.result.1 (settled_full failure s) })
 
 pub returns-in-Missing : goal.returns-in-Missing

@@ -25,7 +25,7 @@ pub overflow_add-count : goal.overflow_add-count
 overflow_add-count c =
     let m = count_small c.requires.0 c.loop-next.invariant in
     let e = c.newly-count.ensures in
-    let f = fresh_small (held (length c.args.input.now) c.loop-next.table (called_of c.loop-next.x)) in
+    let f = fresh_small (held (length c.args.system.input.now) c.loop-next.table (called_of c.loop-next.x)) in
     omega arith
 
 pub advance-requires : goal.advance-requires

@@ -8,7 +8,7 @@ use Rattle.walk.proofs.Stepping.{to_do}
 use Rattle.walk.proofs.walk_on.Given as goal
 
 abbrev pub invariant-loop-next : goal.invariant-loop-next
-invariant-loop-next l = Counting (rule_in l.rules) l.input l.variables (l.variable at l.position) (before (length l.input) (l.variable at l.position) l.initial.table) l.initial.work l.initial.table l.table l.work l.x l.count
+invariant-loop-next l = Counting (rule_in l.system.rules.now) l.system.input.now l.system.variables (l.variable at l.position) (before (length l.system.input.now) (l.variable at l.position) l.initial.table) l.initial.work l.initial.table l.table l.work l.x l.count
 
 abbrev pub decreases-loop-next : goal.decreases-loop-next
-decreases-loop-next l = to_do l.table (cells l.variables (length l.input)) l.x
+decreases-loop-next l = to_do l.table (cells l.system.variables (length l.system.input.now)) l.x
