@@ -15,24 +15,23 @@ use cells::blank;
 use finish::Answer;
 use grammar::refusal::Refusal;
 use grammar::sheet::{Grammar, Rules};
-use rules::admit;
+use rules::{System, admit};
 use walk::ask_over;
 
 // Asks about a pair, the table blanked first.
 pub fn ask(
-    rules: &Rules,
-    input: &[u8],
-    variables: u32,
+    system: System,
     variable: u32,
     position: u32,
     table: &mut [u32],
     work: &mut [u32],
 ) -> Answer
-    requires { AskReady (rule_in rules.now) input.now variables variable position table.old work.old }
-    ensures { Answers (rule_in rules.now) variables input.now (variable at position) table.old table.new work.old work.new (reply_of result) }
+    requires { AskReady (rule_in system.rules.now) system.input.now system.variables variable position table.old work.old }
+    ensures { Answers (rule_in system.entry.rules.now) system.entry.variables system.entry.input.now (variable at position) table.old table.new work.old work.new (reply_of result) }
 {
-    blank(table, 2 * (variables as usize * (input.len() + 1)));
-    ask_over(rules, input, variables, variable, position, table, work)
+    let cells = system.variables as usize * (system.input.len() + 1);
+    blank(table, 2 * cells);
+    ask_over(system, variable, position, table, work)
 }
 
 // Refusal 10: the table has fewer than two numbers for each cell, or the work slice fewer than one.
@@ -84,13 +83,10 @@ pub fn question(
         work.len(),
         &mut rules,
     )?;
-    Ok(ask(
-        &rules,
+    let system = System {
+        rules: &rules,
+        variables: grammar.variables,
         input,
-        grammar.variables,
-        variable,
-        position,
-        table,
-        work,
-    ))
+    };
+    Ok(ask(system, variable, position, table, work))
 }

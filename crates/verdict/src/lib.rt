@@ -12,6 +12,7 @@ use finish::Answer;
 use grammar::refusal::Refusal;
 use grammar::sheet::{Grammar, Rules, read_sheet};
 use memo::{ask, too_small};
+use rules::System;
 
 // What a verdict says, with the count of decided cells: recognised or partial with the end, failure; loop or a missing rule with
 // the variable and the position that are named.
@@ -83,14 +84,11 @@ pub fn verdict(
 {
     let mut rules: Rules = [0u32; 256];
     let grammar = admit_verdict(sheet, input, table.len(), work.len(), &mut rules)?;
-    let answer = ask(
-        &rules,
+    let system = System {
+        rules: &rules,
+        variables: grammar.variables,
         input,
-        grammar.variables,
-        grammar.start,
-        0,
-        table,
-        work,
-    );
+    };
+    let answer = ask(system, grammar.start, 0, table, work);
     Ok(judge(answer, input.len()))
 }
