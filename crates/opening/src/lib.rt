@@ -12,61 +12,45 @@ use finish::Answer;
 use grammar::refusal::Refusal;
 use grammar::sheet::Rules;
 use memo::ask;
+use rules::System;
 use verdict::admit_verdict;
 
 // Whether a variable at 0 loops.
-fn loops(
-    rules: &Rules,
-    input: &[u8],
-    variables: u32,
-    start: u32,
-    table: &mut [u32],
-    work: &mut [u32],
-) -> bool
-    requires { AskReady (rule_in rules.now) input.now variables start 0 table.old work.old }
-    ensures { AskedLoop (rule_in rules.now) variables input.now (start at 0) table.old table.new work.old work.new result }
+fn loops(system: System, start: u32, table: &mut [u32], work: &mut [u32]) -> bool
+    requires { AskReady (rule_in system.rules.now) system.input.now system.variables start 0 table.old work.old }
+    ensures { AskedLoop (rule_in system.entry.rules.now) system.entry.variables system.entry.input.now (start at 0) table.old table.new work.old work.new result }
 {
-    let answer = ask(rules, input, variables, start, 0, table, work);
+    let answer = ask(system, start, 0, table, work);
     matches!(answer, Answer::Loop(..))
 }
 
 // The least number of first bytes on which a variable at 0 loops, where it loops on the whole input.
-fn seek(
-    rules: &Rules,
-    input: &[u8],
-    variables: u32,
-    start: u32,
-    table: &mut [u32],
-    work: &mut [u32],
-) -> u32
-    requires { SeekReady (rule_in rules.now) input.now variables start table.old work.old }
-    ensures { Found (rule_in rules.now) variables input.now (start at 0) table.old table.new work.old work.new result }
+fn seek(system: System, start: u32, table: &mut [u32], work: &mut [u32]) -> u32
+    requires { SeekReady (rule_in system.rules.now) system.input.now system.variables start table.old work.old }
+    ensures { Found (rule_in system.entry.rules.now) system.entry.variables system.entry.input.now (start at 0) table.old table.new work.old work.new result }
 {
-    for m in 0..input.len() {
-        if loops(rules, &input[..m], variables, start, table, work) {
+    for m in 0..system.input.len() {
+        let beginning = System {
+            input: &system.input[..m],
+            ..system
+        };
+        if loops(beginning, start, table, work) {
             return m as u32;
         }
     }
-    input.len() as u32
+    system.input.len() as u32
 }
 
 // The opening of an input on which a variable at 0 loops, if it loops on the whole; the whole is then asked again, so that the table is the verdict's.
-fn shortest(
-    rules: &Rules,
-    input: &[u8],
-    variables: u32,
-    start: u32,
-    table: &mut [u32],
-    work: &mut [u32],
-) -> Option<u32>
-    requires { AskReady (rule_in rules.now) input.now variables start 0 table.old work.old }
-    ensures { Opens (rule_in rules.now) variables input.now (start at 0) table.old table.new work.old work.new (accepted (least_of result)) }
+fn shortest(system: System, start: u32, table: &mut [u32], work: &mut [u32]) -> Option<u32>
+    requires { AskReady (rule_in system.rules.now) system.input.now system.variables start 0 table.old work.old }
+    ensures { Opens (rule_in system.entry.rules.now) system.entry.variables system.entry.input.now (start at 0) table.old table.new work.old work.new (accepted (least_of result)) }
 {
-    if !loops(rules, input, variables, start, table, work) {
+    if !loops(system, start, table, work) {
         return None;
     }
-    let m = seek(rules, input, variables, start, table, work);
-    loops(rules, input, variables, start, table, work);
+    let m = seek(system, start, table, work);
+    loops(system, start, table, work);
     Some(m)
 }
 
@@ -81,5 +65,10 @@ pub fn opening(
 {
     let mut rules: Rules = [0u32; 256];
     let grammar = admit_verdict(sheet, input, table.len(), work.len(), &mut rules)?;
-    Ok(shortest(&rules, input, grammar.variables, grammar.start, table, work))
+    let system = System {
+        rules: &rules,
+        variables: grammar.variables,
+        input,
+    };
+    Ok(shortest(system, grammar.start, table, work))
 }
