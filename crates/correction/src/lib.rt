@@ -9,6 +9,7 @@ use grammar::refusal::Refusal;
 use grammar::sheet::Rules;
 use memo::admit_question;
 use passes::retain;
+use rules::System;
 use walk::ask_over;
 
 mod unchanged;
@@ -47,5 +48,10 @@ pub fn correct(
         return Err(Refusal::Entries);
     }
     retain(table, variables, input.len(), c + 1)?;
-    Ok(ask_over(&rules, input, variables, variable, position, table, work))
+    let system = System {
+        rules: &rules,
+        variables,
+        input,
+    };
+    Ok(ask_over(system, variable, position, table, work))
 }

@@ -6,6 +6,7 @@ use grammar::refusal::Refusal;
 use grammar::sheet::Rules;
 use memo::admit_question;
 use passes::cells_out;
+use rules::System;
 use walk::ask_over;
 
 // A further question about a variable at a position of the input, over a table of the same input, of which nothing is blanked. The count is of newly
@@ -34,5 +35,10 @@ pub fn further(
     if cells_out(table, variables, input.len()) {
         return Err(Refusal::Cell);
     }
-    Ok(ask_over(&rules, input, variables, variable, position, table, work))
+    let system = System {
+        rules: &rules,
+        variables,
+        input,
+    };
+    Ok(ask_over(system, variable, position, table, work))
 }
