@@ -12,9 +12,8 @@ ghost use Rattle.step.specs.Codes.{Code, Settled, result_of};
 ghost use Rattle.lines.specs.Turning.{number_of, link, TurnsSecond, CallsReady, TurnsCalls, TurnReady, Turns};
 
 use cells::{Caller, Cell, cell_number};
-use grammar::sheet::Rules;
 use rows::write_row;
-use rules::{Act, act_at};
+use rules::{Act, System};
 use std::mem::replace;
 
 // What is next at a pair: a pair that it calls and that has no line yet; or its own line, with the numbers of the lines of the pairs that it
@@ -70,22 +69,14 @@ fn turn_calls(n: usize, table: &[u32], work: &[u32], position: u32, b: u32, c: u
 }
 
 // What is next at a pair that has a result.
-pub fn turn_at(
-    rules: &Rules,
-    input: &[u8],
-    variables: u32,
-    table: &[u32],
-    work: &[u32],
-    variable: u32,
-    position: u32,
-) -> Turn
-    requires { TurnReady (rule_in rules.now) input.now variables variable position table.now work.now }
-    ensures { Turns (rule_in rules.now) input.now table.now work.now (variable at position) result }
+pub fn turn_at(system: System, table: &[u32], work: &[u32], variable: u32, position: u32) -> Turn
+    requires { TurnReady (rule_in system.rules.now) system.input.now system.variables variable position table.now work.now }
+    ensures { Turns (rule_in system.entry.rules.now) system.entry.input.now table.now work.now (variable at position) result }
 {
-    let Act::Calls(b, c, d) = act_at(rules, input, variable, position) else {
+    let Act::Calls(b, c, d) = system.act_at(variable, position) else {
         return Turn::Line(0, 0);
     };
-    turn_calls(input.len(), table, work, position, b, c, d)
+    turn_calls(system.input.len(), table, work, position, b, c, d)
 }
 
 // Writes the line of a pair whose cell holds its result.
