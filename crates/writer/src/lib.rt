@@ -18,6 +18,7 @@ use grammar::refusal::Refusal;
 use grammar::sheet::Rules;
 use lines::{Stand, Turn, lay_line, link_down, note_line, turn_at};
 use memo::{admit_question, ask};
+use rules::System;
 use std::ops::ControlFlow;
 use std::ops::ControlFlow::{Break, Continue};
 
@@ -32,20 +33,12 @@ pub struct Written {
 }
 
 // One step: down to a called pair that has no line, or the line of the pair and back to its caller.
-fn advance(
-    rules: &Rules,
-    input: &[u8],
-    variables: u32,
-    table: &[u32],
-    work: &mut [u32],
-    out: &mut [u8],
-    x: Stand,
-) -> Step
-    requires { StepReady (rule_in rules.now) input.now variables table.now work.old out.old x }
-    ensures { Steps (rule_in rules.now) input.now table.now work.old out.old work.new out.new x result }
+fn advance(system: System, table: &[u32], work: &mut [u32], out: &mut [u8], x: Stand) -> Step
+    requires { StepReady (rule_in system.rules.now) system.input.now system.variables table.now work.old out.old x }
+    ensures { Steps (rule_in system.entry.rules.now) system.entry.input.now table.now work.old out.old work.new out.new x result }
 {
-    let n = input.len();
-    match turn_at(rules, input, variables, table, work, x.variable, x.position) {
+    let n = system.input.len();
+    match turn_at(system, table, work, x.variable, x.position) {
         Turn::Down(b, q) => {
             link_down(n, work, x, b, q);
             Continue(Stand {
@@ -72,17 +65,15 @@ fn advance(
 
 // Goes through the reached pairs from the asked one, the only one with a link.
 fn write_from(
-    rules: &Rules,
-    input: &[u8],
-    variables: u32,
+    system: System,
     variable: u32,
     position: u32,
     table: &[u32],
     work: &mut [u32],
     out: &mut [u8],
 ) -> u32
-    requires { WriteReady (rule_in rules.now) input.now variables variable position table.now work.old out.old }
-    ensures { WriteEnds (rule_in rules.now) input.now variables (variable at position) work.old work.new out.old out.new result }
+    requires { WriteReady (rule_in system.rules.now) system.input.now system.variables variable position table.now work.old out.old }
+    ensures { WriteEnds (rule_in system.entry.rules.now) system.entry.input.now system.entry.variables (variable at position) work.old work.new out.old out.new result }
 {
     let mut x = Stand {
         variable,
@@ -90,7 +81,7 @@ fn write_from(
         lines: 0,
     };
     loop {
-        match advance(rules, input, variables, table, work, out, x) {
+        match advance(system, table, work, out, x) {
             Continue(next) => x = next,
             Break(lines) => return lines,
         }
@@ -99,46 +90,38 @@ fn write_from(
 
 // Writes the lines of a pair that has a result, the work slice blanked first.
 fn write_lines(
-    rules: &Rules,
-    input: &[u8],
-    variables: u32,
+    system: System,
     variable: u32,
     position: u32,
     table: &[u32],
     work: &mut [u32],
     out: &mut [u8],
 ) -> u32
-    requires { LinesReady (rule_in rules.now) input.now variables variable position table.now work.old out.old }
-    ensures { WriteEnds (rule_in rules.now) input.now variables (variable at position) work.old work.new out.old out.new result }
+    requires { LinesReady (rule_in system.rules.now) system.input.now system.variables variable position table.now work.old out.old }
+    ensures { WriteEnds (rule_in system.entry.rules.now) system.entry.input.now system.entry.variables (variable at position) work.old work.new out.old out.new result }
 {
-    blank(work, variables as usize * (input.len() + 1));
-    let root = cell_number(input.len(), variable, position);
+    blank(work, system.variables as usize * (system.input.len() + 1));
+    let root = cell_number(system.input.len(), variable, position);
     work[root] = 1;
-    write_from(
-        rules, input, variables, variable, position, table, work, out,
-    )
+    write_from(system, variable, position, table, work, out)
 }
 
 // Asks about a pair, and writes its lines if it has a result.
 fn ask_and_write(
-    rules: &Rules,
-    input: &[u8],
-    variables: u32,
+    system: System,
     variable: u32,
     position: u32,
     table: &mut [u32],
     work: &mut [u32],
     out: &mut [u8],
 ) -> Written
-    requires { AskWriteReady (rule_in rules.now) input.now variables variable position table.old work.old out.old }
-    ensures answers { Answers (rule_in rules.now) variables input.now (variable at position) table.old table.new work.old work.new (reply_of result.answer) }
-    ensures writes { Writes (rule_in rules.now) input.now (variable at position) (outcome_of (reply_of result.answer)) out.old out.new result.lines }
+    requires { AskWriteReady (rule_in system.rules.now) system.input.now system.variables variable position table.old work.old out.old }
+    ensures answers { Answers (rule_in system.entry.rules.now) system.entry.variables system.entry.input.now (variable at position) table.old table.new work.old work.new (reply_of result.answer) }
+    ensures writes { Writes (rule_in system.entry.rules.now) system.entry.input.now (variable at position) (outcome_of (reply_of result.answer)) out.old out.new result.lines }
 {
-    let answer = ask(rules, input, variables, variable, position, table, work);
+    let answer = ask(system, variable, position, table, work);
     if has_result(answer) {
-        let lines = write_lines(
-            rules, input, variables, variable, position, table, work, out,
-        );
+        let lines = write_lines(system, variable, position, table, work, out);
         return Written { answer, lines };
     }
     Written { answer, lines: 0 }
@@ -177,9 +160,12 @@ pub fn write(
     if output_too_small(variables, input.len(), out.len()) {
         return Err(Refusal::Output);
     }
-    Ok(ask_and_write(
-        &rules, input, variables, variable, position, table, work, out,
-    ))
+    let system = System {
+        rules: &rules,
+        variables,
+        input,
+    };
+    Ok(ask_and_write(system, variable, position, table, work, out))
 }
 
 // Refusal 11: the output has fewer bytes than a line for each cell takes.

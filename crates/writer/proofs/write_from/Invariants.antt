@@ -9,7 +9,7 @@ use Rattle.writer.proofs.write_from.Given as goal
 
 abbrev pub invariant-loop-next : goal.invariant-loop-next
 invariant-loop-next l =
-    Going (rule_in l.rules) l.input l.variables (l.variable at l.position) l.initial.work l.initial.out l.work l.out (pair_at l.x) l.x.lines
+    Going (rule_in l.system.rules.now) l.system.input.now l.system.variables (l.variable at l.position) l.initial.work l.initial.out l.work l.out (pair_at l.x) l.x.lines
 
 abbrev pub decreases-loop-next : goal.decreases-loop-next
-decreases-loop-next l = to_do l.work (cells l.variables (length l.input))
+decreases-loop-next l = to_do l.work (cells l.system.variables (length l.system.input.now))
