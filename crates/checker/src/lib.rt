@@ -13,7 +13,7 @@ ghost use Rattle.checker.specs.Steps.{line_held, line_read, result_given, Sized,
 use columns::fields;
 use grammar::refusal::Refusal;
 use grammar::sheet::Rules;
-use rules::{Act, act_at, admit};
+use rules::{Act, System, admit};
 
 // What a passed certificate claims: success or failure, with the end in its last line.
 #[derive(Clone, Copy, PartialEq, Eq)]
@@ -165,17 +165,11 @@ fn result_by_leaf(line: Line, outcome: Outcome) -> Option<Outcome>
 }
 
 // The outcome that the rule of line n gives the line's pair.
-fn result_by(
-    rules: &Rules,
-    input: &[u8],
-    certificate: &[u8],
-    n: usize,
-    line: Line,
-) -> Option<Outcome>
-    requires { (1 ≤ line.variable) × (line.variable ≤ 256) × (length input.now ≤ 4096) × (49 * n ≤ length certificate.now) }
-    ensures { result_given result ≡ result_by (earlier_line certificate.now n) (act (rule_in rules.now) input.now (line.variable at line.start)) line.start line.first line.second }
+fn result_by(system: System, certificate: &[u8], n: usize, line: Line) -> Option<Outcome>
+    requires { (1 ≤ line.variable) × (line.variable ≤ 256) × (length system.input.now ≤ 4096) × (49 * n ≤ length certificate.now) }
+    ensures { result_given result ≡ result_by (earlier_line certificate.now n) (act (rule_in system.entry.rules.now) system.entry.input.now (line.variable at line.start)) line.start line.first line.second }
 {
-    match act_at(rules, input, line.variable, line.start) {
+    match system.act_at(line.variable, line.start) {
         Act::Success(end) => result_by_leaf(line, Outcome::Success(end)),
         Act::Failure => result_by_leaf(line, Outcome::Failure),
         Act::Missing => None,
@@ -196,39 +190,28 @@ fn states(line: Line, given: Option<Outcome>) -> bool
 
 // Does line n follow from the lines before it?
 #[tactic(auto, unfolding(crate::specs::Checker::follows))]
-fn follows(
-    rules: &Rules,
-    variables: u32,
-    input: &[u8],
-    certificate: &[u8],
-    n: usize,
-    line: Line,
-) -> bool
-    requires { Sized variables input.now certificate.now n }
-    ensures { result ≡ Rattle.checker.specs.Checker.follows (rule_in rules.now) variables input.now (earlier_line certificate.now n) (some (line_held line)) }
+fn follows(system: System, certificate: &[u8], n: usize, line: Line) -> bool
+    requires { Sized system.variables system.input.now certificate.now n }
+    ensures { result ≡ Rattle.checker.specs.Checker.follows (rule_in system.entry.rules.now) system.entry.variables system.entry.input.now (earlier_line certificate.now n) (some (line_held line)) }
 {
-    if !(1..=variables).contains(&line.variable) || input.len() < line.start as usize {
+    if !(1..=system.variables).contains(&line.variable)
+        || system.input.len() < line.start as usize
+    {
         return false;
     }
-    states(line, result_by(rules, input, certificate, n, line))
+    states(line, result_by(system, certificate, n, line))
 }
 
 // Line n, for refusals 12 and 13.
 #[tactic(auto, using(crate::proofs::Progress::line_tests))]
-fn check_line(
-    rules: &Rules,
-    variables: u32,
-    input: &[u8],
-    certificate: &[u8],
-    n: usize,
-) -> Result<(), Rejection>
-    requires { (1 ≤ n) × Sized variables input.now certificate.now n }
-    ensures { test_says result ≡ line_found (rule_in rules.now) variables input.now certificate.now n }
+fn check_line(system: System, certificate: &[u8], n: usize) -> Result<(), Rejection>
+    requires { (1 ≤ n) × Sized system.variables system.input.now certificate.now n }
+    ensures { test_says result ≡ line_found (rule_in system.entry.rules.now) system.entry.variables system.entry.input.now certificate.now n }
 {
     let Some(line) = line_at(certificate, n) else {
         return Err(Rejection::ReadingForm(n));
     };
-    if !follows(rules, variables, input, certificate, n, line) {
+    if !follows(system, certificate, n, line) {
         return Err(Rejection::ReadingLine(n));
     }
     Ok(())
@@ -236,18 +219,12 @@ fn check_line(
 
 // The first `count` lines in turn.
 #[tactic(auto, using(crate::proofs::Progress::testing))]
-fn check_lines(
-    rules: &Rules,
-    variables: u32,
-    input: &[u8],
-    certificate: &[u8],
-    count: usize,
-) -> Result<(), Rejection>
-    requires { Sized variables input.now certificate.now count }
-    ensures { test_says result ≡ lines_found (rule_in rules.now) variables input.now certificate.now count }
+fn check_lines(system: System, certificate: &[u8], count: usize) -> Result<(), Rejection>
+    requires { Sized system.variables system.input.now certificate.now count }
+    ensures { test_says result ≡ lines_found (rule_in system.entry.rules.now) system.entry.variables system.entry.input.now certificate.now count }
 {
     for passed in 0..count {
-        check_line(rules, variables, input, certificate, passed + 1)?;
+        check_line(system, certificate, passed + 1)?;
     }
     Ok(())
 }
@@ -279,21 +256,19 @@ fn last_line(
 // What the rules make of a certificate for the pair of a variable and a position, for refusals 12 to 14.
 #[tactic(auto, using(crate::proofs::Certificate::judging))]
 fn judge(
-    rules: &Rules,
-    variables: u32,
-    input: &[u8],
+    system: System,
     variable: u32,
     position: u32,
     certificate: &[u8],
 ) -> Result<Claim, Rejection>
-    requires { (variables ≤ 256) × (length input.now ≤ 4096) }
-    ensures { told result ≡ judged (rule_in rules.now) variables input.now (variable at position) certificate.now }
+    requires { (system.variables ≤ 256) × (length system.input.now ≤ 4096) }
+    ensures { told result ≡ judged (rule_in system.entry.rules.now) system.entry.variables system.entry.input.now (variable at position) certificate.now }
 {
     if certificate.len() % 49 != 0 {
         return Err(Rejection::ReadingForm(0));
     }
     let count = certificate.len() / 49;
-    check_lines(rules, variables, input, certificate, count)?;
+    check_lines(system, certificate, count)?;
     last_line(certificate, count, variable, position)
 }
 
@@ -309,12 +284,10 @@ pub fn check(
 {
     let mut rules: Rules = [0u32; 256];
     let grammar = admit(sheet, input, variable, position, &mut rules)?;
-    judge(
-        &rules,
-        grammar.variables,
+    let system = System {
+        rules: &rules,
+        variables: grammar.variables,
         input,
-        variable,
-        position,
-        certificate,
-    )
+    };
+    judge(system, variable, position, certificate)
 }

@@ -7,11 +7,11 @@ use Rattle.checker.proofs.check_line.Goals as goal
 pub returns-then-not-follows : goal.returns-then-not-follows
 returns-then-not-follows c =
     let a = c.args in
-    let e = line_tests (rule_in a.rules.now) a.variables a.input.now a.certificate.now a.n (omega arith) in
+    let e = line_tests (rule_in a.system.rules.now) a.system.variables a.system.input.now a.certificate.now a.n (omega arith) in
     rw e (grind arith)
 
 pub returns : goal.returns
 returns c =
     let a = c.args in
-    let e = line_tests (rule_in a.rules.now) a.variables a.input.now a.certificate.now a.n (omega arith) in
+    let e = line_tests (rule_in a.system.rules.now) a.system.variables a.system.input.now a.certificate.now a.n (omega arith) in
     rw e (grind arith)
