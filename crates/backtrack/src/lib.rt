@@ -11,7 +11,7 @@ ghost use Rattle.backtrack.specs.Frames.{flag_of, stack_in, state_in, pushed, Va
 
 use grammar::refusal::Refusal;
 use grammar::sheet::Rules;
-use rules::{Act, act_at, admit, second_of};
+use rules::{Act, System, admit, second_of};
 use std::ops::ControlFlow;
 
 // What a run ends with: an outcome (success with its end), spent or no frame, each with the moves made.
@@ -76,9 +76,9 @@ fn plan_of(act: Act, x: Registers) -> ControlFlow<Ending, Move>
 
 // What comes next: an outcome, which ends the run, or a move.
 #[tactic(auto, using(crate::proofs::Plans::plans))]
-fn peek(rules: &Rules, input: &[u8], frames: &[u32], x: Registers) -> ControlFlow<Ending, Move>
-    requires { (length input.now ≤ 4096) × Valid (rule_in rules.now) frames.now x }
-    ensures { Plans x.moves (stack_in frames.now x.depth) (step (rule_in rules.now) input.now (state_in frames.now x)) result }
+fn peek(system: System, frames: &[u32], x: Registers) -> ControlFlow<Ending, Move>
+    requires { (length system.input.now ≤ 4096) × Valid (rule_in system.rules.now) frames.now x }
+    ensures { Plans x.moves (stack_in frames.now x.depth) (step (rule_in system.entry.rules.now) system.entry.input.now (state_in frames.now x)) result }
 {
     if x.depth == 0 {
         return ControlFlow::Break(bottom(x));
@@ -86,10 +86,11 @@ fn peek(rules: &Rules, input: &[u8], frames: &[u32], x: Registers) -> ControlFlo
     let top = (x.depth - 1) * 3;
     let variable = frames[top];
     match frames[top + 2] {
-        0 => plan_of(act_at(rules, input, variable, x.position), x),
+        0 => plan_of(system.act_at(variable, x.position), x),
         1 => {
+            let called = second_of(system.rules, variable, x.flag);
             let position = back(x, frames[top + 1]);
-            ControlFlow::Continue(Move::Push(true, 2, second_of(rules, variable, x.flag), position))
+            ControlFlow::Continue(Move::Push(true, 2, called, position))
         }
         _ => {
             let position = back(x, frames[top + 1]);
@@ -121,11 +122,11 @@ fn push(frames: &mut [u32], depth: usize, stage: u32, variable: u32, position: u
 }
 
 // One move; or what ends the run before it: an outcome, else spent, else no frame.
-fn advance(rules: &Rules, input: &[u8], frames: &mut [u32], x: Registers, budget: u32) -> Turn
-    requires { (length input.now ≤ 4096) × (x.moves ≤ budget) × Valid (rule_in rules.now) frames.old x }
-    ensures { Turns (rule_in rules.now) input.now budget (length frames.old / 3) (state_in frames.old x) frames.new result }
+fn advance(system: System, frames: &mut [u32], x: Registers, budget: u32) -> Turn
+    requires { (length system.input.now ≤ 4096) × (x.moves ≤ budget) × Valid (rule_in system.rules.now) frames.old x }
+    ensures { Turns (rule_in system.entry.rules.now) system.entry.input.now budget (length frames.old / 3) (state_in frames.old x) frames.new result }
 {
-    let next = peek(rules, input, frames, x)?;
+    let next = peek(system, frames, x)?;
     let left = budget - x.moves;
     if left == 0 {
         return ControlFlow::Break(Ending::Spent(x.moves));
@@ -159,15 +160,14 @@ fn advance(rules: &Rules, input: &[u8], frames: &mut [u32], x: Registers, budget
 
 // The machine's run over the rules' words.
 fn run_rules(
-    rules: &Rules,
-    input: &[u8],
+    system: System,
     variable: u32,
     position: u32,
     frames: &mut [u32],
     budget: u32,
 ) -> Ending
-    requires { (1 ≤ variable) × (variable ≤ 256) × (length input.now ≤ 4096) }
-    ensures { RunsTo (rule_in rules.now) input.now (variable at position) frames.old frames.new budget (Ok result) }
+    requires { (1 ≤ variable) × (variable ≤ 256) × (length system.input.now ≤ 4096) }
+    ensures { RunsTo (rule_in system.entry.rules.now) system.entry.input.now (variable at position) frames.old frames.new budget (Ok result) }
 {
     if frames.len() < 3 {
         return Ending::NoFrame(0);
@@ -180,7 +180,7 @@ fn run_rules(
         depth: 1,
     };
     loop {
-        match advance(rules, input, frames, x, budget) {
+        match advance(system, frames, x, budget) {
             ControlFlow::Break(ending) => return ending,
             ControlFlow::Continue(next) => x = next,
         }
@@ -199,6 +199,11 @@ pub fn run(
     ensures { Runs sheet.now input.now (variable at position) frames.old frames.new budget result }
 {
     let mut rules: Rules = [0u32; 256];
-    admit(sheet, input, variable, position, &mut rules)?;
-    Ok(run_rules(&rules, input, variable, position, frames, budget))
+    let grammar = admit(sheet, input, variable, position, &mut rules)?;
+    let system = System {
+        rules: &rules,
+        variables: grammar.variables,
+        input,
+    };
+    Ok(run_rules(system, variable, position, frames, budget))
 }

@@ -8,7 +8,7 @@ pub returns-then-frames-lt3 : goal.returns-then-frames-lt3
 returns-then-frames-lt3 c =
     let a = c.args in
     record {
-      answer = no_room (rule_in a.rules.now) a.input.now a.frames.now a.variable a.position a.budget (omega arith);
+      answer = no_room (rule_in a.system.rules.now) a.system.input.now a.frames.now a.variable a.position a.budget (omega arith);
       size = refl;
     }
 
@@ -17,5 +17,5 @@ loop-ending-init c =
     let a = c.args in
     let first = c.put_frame in
     let k = first.auto.frames in
-    begins a.rules.now a.input.now a.variable a.position a.budget first.new.frames a.frames.now (omega arith) (omega arith)
+    begins a.system.rules.now a.system.input.now a.variable a.position a.budget first.new.frames a.frames.now (omega arith) (omega arith)
     (omega arith) first.ensures
