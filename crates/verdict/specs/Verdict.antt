@@ -14,13 +14,17 @@ use Rattle.verdict.specs.declared.Judgement.TheVariants.{Recognised, Partial, Fa
 
 -- "code (0 recognised, 1 failure, 2 loop, 3 missing, .. 5 partial, 9 refused), named variable or refusal number,
 -- place (end, named place, refused line, or 0), cells (0 if refused)": what each case of a verdict says.
+abbrev pub numbers_by : {R : Type 0} → (R → ℕ) → (R → ℕ) → Result Judgement R → List ℕ
+numbers_by number line (Ok (Recognised q count)) = 0 ∷ 0 ∷ q ∷ count ∷ []
+numbers_by number line (Ok (Failure count)) = 1 ∷ 0 ∷ 0 ∷ count ∷ []
+numbers_by number line (Ok (Loop A p count)) = 2 ∷ A ∷ p ∷ count ∷ []
+numbers_by number line (Ok (Missing A p count)) = 3 ∷ A ∷ p ∷ count ∷ []
+numbers_by number line (Ok (Partial q count)) = 5 ∷ 0 ∷ q ∷ count ∷ []
+numbers_by number line (Err e) = 9 ∷ number e ∷ line e ∷ 0 ∷ []
+
+-- The same of a verdict that is refused as the calls refuse.
 abbrev pub numbers : Result Judgement Refusal → List ℕ
-numbers (Ok (Recognised q count)) = 0 ∷ 0 ∷ q ∷ count ∷ []
-numbers (Ok (Failure count)) = 1 ∷ 0 ∷ 0 ∷ count ∷ []
-numbers (Ok (Loop A p count)) = 2 ∷ A ∷ p ∷ count ∷ []
-numbers (Ok (Missing A p count)) = 3 ∷ A ∷ p ∷ count ∷ []
-numbers (Ok (Partial q count)) = 5 ∷ 0 ∷ q ∷ count ∷ []
-numbers (Err e) = 9 ∷ number_of e ∷ line_of e ∷ 0 ∷ []
+numbers = numbers_by number_of line_of
 
 -- "place (end, named place .. or 0)"
 abbrev pub position_for : Outcome → ℕ → ℕ

@@ -1,12 +1,13 @@
 // The verdict: the question about the start variable at position 0.
 #![tactic(auto)]
 
-ghost use Rattle.std.specs.Prelude.{◌≡◌, Ok};
+ghost use Rattle.std.specs.Prelude.{◌≡◌, ℕ, Ok};
 ghost use Rattle.schema.specs.Handed.{verdict_of};
 ghost use Rattle.rules.specs.Admission.{Admits};
+ghost use Rattle.grammar.specs.Numbers.{number_of, line_of};
 ghost use Rattle.grammar.specs.Refusal.{accepted};
 ghost use Rattle.finish.specs.Reply.{reply_of};
-ghost use Rattle.verdict.specs.Verdict.{numbers, judged, VerdictPromise};
+ghost use Rattle.verdict.specs.Verdict.{numbers, numbers_by, judged, VerdictPromise};
 
 use finish::Answer;
 use grammar::refusal::Refusal;
@@ -38,9 +39,41 @@ fn judge(answer: Answer, n: usize) -> Judgement
     }
 }
 
+// Why a verdict is refused, as the first line of `readentry` tells it: a number, and the line that is at fault or 0.
+pub trait Reason {
+    ghost number: { Self → ℕ };
+
+    ghost line: { Self → ℕ };
+
+    fn told(self) -> (u32, u32)
+        ensures number { result.0 ≡ number self }
+        ensures line { result.1 ≡ line self };
+}
+
+impl Reason for Refusal {
+    ghost number = { number_of };
+
+    ghost line = { line_of };
+
+    fn told(self) -> (u32, u32) {
+        (self.number(), self.line())
+    }
+}
+
+// Any number and any line.
+impl Reason for (u32, u32) {
+    ghost number = { λ told. told.0 };
+
+    ghost line = { λ told. told.1 };
+
+    fn told(self) -> (u32, u32) {
+        (self.0, self.1)
+    }
+}
+
 // The four numbers of a verdict, those of the first line of `readentry`.
-pub fn numbers_of(verdict: Result<Judgement, Refusal>) -> [u32; 4]
-    ensures { result ≡ numbers verdict }
+pub fn numbers_of<R: Reason>(verdict: Result<Judgement, R>) -> [u32; 4]
+    ensures { result ≡ numbers_by R.number R.line verdict }
 {
     match verdict {
         Ok(Judgement::Recognised(end, count)) => [0, 0, end, count],
@@ -48,7 +81,10 @@ pub fn numbers_of(verdict: Result<Judgement, Refusal>) -> [u32; 4]
         Ok(Judgement::Loop(variable, position, count)) => [2, variable, position, count],
         Ok(Judgement::Missing(variable, position, count)) => [3, variable, position, count],
         Ok(Judgement::Partial(end, count)) => [5, 0, end, count],
-        Err(refusal) => [9, refusal.number(), refusal.line(), 0],
+        Err(reason) => {
+            let (number, line) = reason.told();
+            [9, number, line, 0]
+        }
     }
 }
 
