@@ -49,8 +49,8 @@ module _ (c : ℕ) (s s' : List ℕ) where
       ((bytes_eq-Decides (take c s) (take c s')).1 (same_before d), (bytes_eq-Decides (drop (c + 1) s) (drop (c + 1) s')).1 (same_behind d))
 
   -- Up to c and from behind it on is everywhere else.
-  pub parts_elsewhere : length s ≡ length s' → (not (bytes_eq (take c s) (take c s')) || not (bytes_eq (drop (c + 1) s) (drop (c + 1) s'))) ≡ differs_elsewhere c s s'
-  parts_elsewhere z = go (bytes_eq (take c s) (take c s')) (bytes_eq (drop (c + 1) s) (drop (c + 1) s')) (differs_elsewhere c s s') (none_elsewhere z) none_found
+  pub slices_elsewhere : length s ≡ length s' → (not (bytes_eq (take c s) (take c s')) || not (bytes_eq (drop (c + 1) s) (drop (c + 1) s'))) ≡ differs_elsewhere c s s'
+  slices_elsewhere z = go (bytes_eq (take c s) (take c s')) (bytes_eq (drop (c + 1) s) (drop (c + 1) s')) (differs_elsewhere c s s') (none_elsewhere z) none_found
     where
       go : (a b d : Bool) → (a ≡ true → b ≡ true → d ≡ false) → (d ≡ false → (a ≡ true) × (b ≡ true)) → (not a || not b) ≡ d
       go true true d f g = sym (f refl refl)
@@ -63,11 +63,11 @@ module _ (c : ℕ) (s s' : List ℕ) where
 
   -- The test up to c,
   pub differs_before : length s ≡ length s' → not (bytes_eq (take c s) (take c s')) ≡ true → differs_elsewhere c s s' ≡ true
-  differs_before z e = sym (parts_elsewhere z) ∙ rw e
+  differs_before z e = sym (slices_elsewhere z) ∙ rw e
 
   -- and where it tells of none, the one from behind it on.
   pub differs_behind : length s ≡ length s' → not (bytes_eq (take c s) (take c s')) ≡ false
       → not (bytes_eq (take (length s - (c + 1)) (drop (c + 1) s)) (take (length s' - (c + 1)) (drop (c + 1) s'))) ≡ differs_elsewhere c s s'
   differs_behind z e =
       rw (take_all (length s - (c + 1)) (drop (c + 1) s) (omega (arith, length-drop (c + 1) s)), take_all (length s' - (c + 1)) (drop (c + 1) s') (omega (arith, length-drop (c + 1) s')))
-      (rw e at (parts_elsewhere z))
+      (rw e at (slices_elsewhere z))

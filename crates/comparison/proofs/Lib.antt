@@ -1,2 +1,3 @@
 -- Why the comparison finds what differs.
 pub mod Comparing
+pub mod Parts

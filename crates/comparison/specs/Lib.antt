@@ -1,0 +1,2 @@
+-- Two inputs compared.
+pub mod Between
