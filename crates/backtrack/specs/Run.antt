@@ -1,6 +1,6 @@
 -- Document 01, "The backtracking machine": its call. Assumes nothing.
-use Rattle.std.specs.Prelude.{List, ◌≡◌, ℕ, ◌/◌, Result, length}
-use Rattle.grammar.specs.Numbers.{checked_as}
+use Rattle.std.specs.Prelude.{List, ◌≡◌, ℕ, ◌/◌, Result, Ok, Err, length}
+use Rattle.grammar.specs.Numbers.{number_of, line_of}
 use Rattle.grammar.specs.Refusal.{Checked, refused, accepted}
 use Rattle.grammar.specs.Rule.{Rule}
 use Rattle.grammar.specs.Sheet.{Grammar}
@@ -21,7 +21,8 @@ ending_says (NoFrame moves) = ran no_frame moves
 
 -- What the answer says: the ending, or the refusal's number and line.
 abbrev pub told : Result Ending Refusal → Checked Ran
-told = checked_as ending_says
+told (Ok e) = accepted (ending_says e)
+told (Err e) = refused (number_of e) (line_of e)
 
 -- "its length divided by 3, rounded down, is the room, and its contents afterwards are free": the run with these rules on the pair x,
 -- the slice holding frames before it and frames' after it.

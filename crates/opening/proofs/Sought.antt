@@ -80,3 +80,7 @@ module _ {rule : ℕ → Rule} {v : ℕ} {input : List ℕ} {x : Pair} {T₀ T W
     };
     between = seeking.between;
   }
+
+  -- That is, so many bytes as the whole has.
+  pub found_at_end : (k : ℕ) → k ≡ length input → length input ≤ m → Loops rule input x → Found rule v input x T₀ T W₀ W k
+  found_at_end k e l h = subst (λ (j : ℕ). Found rule v input x T₀ T W₀ W j) (sym e) (found_whole l h)

@@ -1,5 +1,5 @@
 use native.Mathlib.Omega.{arith}
-use Rattle.opening.proofs.Sought.{seeking_goes_on, found_here, found_whole}
+use Rattle.opening.proofs.Sought.{seeking_goes_on, found_here, found_at_end}
 use Rattle.opening.proofs.seek.Goals as goal
 
 pub returns-then-loops : goal.returns-then-loops
@@ -11,4 +11,4 @@ loop-m-preserved c =
     seeking_goes_on c.loop-m.invariant _ c.loops.ensures (grind arith) c.loop-m-test.true c.if-loops.false
 
 pub returns : goal.returns
-returns c = found_whole c.loop-m.invariant c.loop-m-test.false c.requires.loops
+returns c = found_at_end c.loop-m.invariant _ (omega arith) c.loop-m-test.false c.requires.loops

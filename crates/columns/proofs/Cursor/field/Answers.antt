@@ -1,4 +1,4 @@
-use Rattle.std.proofs.Common.{ap, sym, ◌∙◌}
+use Rattle.std.proofs.Common.{ℕ, ap, sym, ◌∙◌, arith}
 use Rattle.std.proofs.Math.Option.{none, some}
 use Rattle.columns.specs.Column.{number}
 use Rattle.columns.proofs.Laws.{short, found}
@@ -34,4 +34,5 @@ returns g c =
     let l = c.in_ok-get.ensures.lookup.0 in
     let m = c.in_ok-columns.ensures.cases in
     let p = part_lent s _ _ at g.row.W l.0 l.2 m.enough m.same in
-    found g.row.W s at (some c.in_ok-read.field-0) p.inside (ap number (sym p.is) ∙ sym c.in_ok-read.ensures)
+    let x = c.in_ok-read.field-0 in
+    ap (λ (k : ℕ). some (x, k)) (omega arith) ∙ found g.row.W s at (some x) p.inside (ap number (sym p.is) ∙ sym c.in_ok-read.ensures)
