@@ -27,6 +27,11 @@ use Rattle.memo.specs.Ask.{AskReady}
 use Rattle.memo.proofs.Ready as ready
 use Rattle.memo.proofs.Ready.{not_admitted, admitted, of_grammar}
 
+-- The same test, of lengths that come to the same.
+pub few_in : (v n t w : ℕ) {r : Bool} {t' w' : ℕ} → r ≡ (ltb t' (2 * cells v n) || ltb w' (cells v n)) → t' ≡ t → w' ≡ w
+    → r ≡ (ltb t (2 * cells v n) || ltb w (cells v n))
+few_in v n t w h e f = rw (← e, ← f) h
+
 -- ---- Its admission: what is refused before the slices are looked at, then 10.
 
 module _ {s input : List ℕ} {A p : ℕ} {before after : List ℕ} {r : Result Line Refusal} (admission : Admission s input A p before after r) (table work : ℕ) where
