@@ -57,9 +57,11 @@ pub record Reading (w all : ℕ) (s numbers : List ℕ) (here : Cursor) (k : ℕ
   pub rest : fields all w s 0 ≡ before (take k numbers) (fields (all - k) w s here.at)
 
 module _ (w all : ℕ) (s : List ℕ) where
-  pub starts : (numbers : List ℕ) → length numbers ≡ all → Reading w all s numbers (record { at = 0 }) 0
+  pub starts : (numbers : List ℕ) {here : Cursor} → length numbers ≡ all → here.at ≡ 0 → Reading w all s numbers here 0
   unfolding before
-  starts numbers e = let z : all - 0 ≡ all = omega arith in record { room = e; so_far = omega arith; rest = ap (λ (m : ℕ). fields m w s 0) (sym z) }
+  starts numbers {here} e b =
+      let z : all - 0 ≡ all = omega arith in
+      record { room = e; so_far = omega arith; rest = ap (λ (m : ℕ). fields m w s 0) (sym z) ∙ ap (fields (all - 0) w s) (sym b) }
 
   module _ {numbers : List ℕ} {here : Cursor} {k : ℕ} (r : Reading w all s numbers here k) where
     -- The next field is no number,
@@ -179,11 +181,11 @@ line_lent s rest line at w k l e m f =
     let z : k * w - 0 ≡ k * w = omega arith in
     rw (width_is w k) (part_lent s rest line at (k * w) l e m (f ∙ ap (λ (n : ℕ). take n rest) z))
 
--- Its fields are those from the position on.
-pub fields_within : (w : ℕ) (s part : List ℕ) (k at : ℕ) → Part s part at (width w k) → fields k w part 0 ≡ fields k w s at
-fields_within w s part k at p =
-    let z : at + 0 ≡ at = omega arith in
-    ap (λ (part : List ℕ). fields k w part 0) p.is ∙ fields_of_part w s at (at + width w k) p.inside k 0 (omega arith) ∙ ap (fields k w s) z
+-- Its fields are those from a position on that its start comes to.
+pub fields_within : (w : ℕ) (s part : List ℕ) (k at : ℕ) {start : ℕ} → Part s part start (width w k) → start ≡ at → fields k w part 0 ≡ fields k w s at
+fields_within w s part k at {start} p e =
+    let z : start + 0 ≡ at = omega arith in
+    ap (λ (part : List ℕ). fields k w part 0) p.is ∙ fields_of_part w s start (start + width w k) p.inside k 0 (omega arith) ∙ ap (fields k w s) z
 
 -- ---- Fields that end beyond the bytes.
 
