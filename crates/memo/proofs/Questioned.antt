@@ -5,6 +5,8 @@ use mathlib.Core.List.{List}
 use Prim.Native.Nat.{ℕ, ◌*◌, ◌≤◌}
 use lib.Dec.{ltb}
 use lib.ListN.{length}
+use native.Mathlib.Omega.{arith}
+use borrow.Author.Tests.{ltb-false, le-ltb}
 use Rattle.std.specs.Prelude.{Result, Ok, Err}
 use Rattle.grammar.specs.Numbers.{number_of, line_of}
 use Rattle.grammar.specs.Promise.{told}
@@ -13,6 +15,7 @@ use Rattle.grammar.specs.Words.{rule_in}
 use Rattle.grammar.specs.declared.refusal.Refusal.{Refusal}
 use Rattle.grammar.specs.declared.refusal.Refusal.TheVariants.{Room}
 use Rattle.grammar.specs.declared.sheet.Grammar.{Grammar as Line}
+use Rattle.grammar.proofs.Fitting.{neither_true}
 use Rattle.grammar.proofs.Told.{Reads, line_says_law}
 use Rattle.rules.specs.Admission.{Admits, Admission}
 use Rattle.rules.proofs.Admitted.{admits}
@@ -27,10 +30,25 @@ use Rattle.memo.specs.Ask.{AskReady}
 use Rattle.memo.proofs.Ready as ready
 use Rattle.memo.proofs.Ready.{not_admitted, admitted, of_grammar}
 
--- The same test, of lengths that come to the same.
-pub few_in : (v n t w : ℕ) {r : Bool} {t' w' : ℕ} → r ≡ (ltb t' (2 * cells v n) || ltb w' (cells v n)) → t' ≡ t → w' ≡ w
-    → r ≡ (ltb t (2 * cells v n) || ltb w (cells v n))
-few_in v n t w h e f = rw (← e, ← f) h
+-- ---- The test of two lengths.
+
+module _ (v n t w : ℕ) {t' w' : ℕ} where
+  -- Where neither is too short, longer ones are not either;
+  pub longer_enough : false ≡ (ltb t' (2 * cells v n) || ltb w' (cells v n)) → t' ≤ t → w' ≤ w → false ≡ (ltb t (2 * cells v n) || ltb w (cells v n))
+  longer_enough h l m =
+      let e = neither_true (ltb t' (2 * cells v n)) (ltb w' (cells v n)) (sym h) in
+      let f = ltb-false t' (2 * cells v n) e.0 in
+      let g = ltb-false w' (cells v n) e.1 in
+      rw (le-ltb t (2 * cells v n) (omega arith), le-ltb w (cells v n) (omega arith)) refl
+
+module _ (v n t w : ℕ) {t' w' : ℕ} where
+  -- where one is, shorter ones are too.
+  pub shorter_few : true ≡ (ltb t' (2 * cells v n) || ltb w' (cells v n)) → t ≤ t' → w ≤ w' → true ≡ (ltb t (2 * cells v n) || ltb w (cells v n))
+  shorter_few h l m = go (ltb t (2 * cells v n) || ltb w (cells v n)) refl
+    where
+      go : (b : Bool) → (ltb t (2 * cells v n) || ltb w (cells v n)) ≡ b → true ≡ b
+      go true e = refl
+      go false e = h ∙ sym (longer_enough v n t' w' (sym e) l m)
 
 -- ---- Its admission: what is refused before the slices are looked at, then 10.
 

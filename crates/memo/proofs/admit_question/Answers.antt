@@ -1,7 +1,8 @@
+use mathlib.Core.Path.{refl, sym, ◌∙◌}
 use native.Mathlib.Omega.{arith}
 use lib.ListN.{length}
 use Rattle.grammar.proofs.HandedOn.{handed_on}
-use Rattle.memo.proofs.Questioned.{refused_first, few_short, few_in, refused_small, admitted_then}
+use Rattle.memo.proofs.Questioned.{refused_first, few_short, longer_enough, shorter_few, refused_small, admitted_then}
 use Rattle.memo.proofs.admit_question.Goals as goal
 
 pub too_small-requires : goal.too_small-requires
@@ -10,8 +11,9 @@ too_small-requires c = few_short c.admit.ensures c.args.table c.args.work c.in_o
 pub returns-then-too_small : goal.returns-then-too_small
 returns-then-too_small c =
     let a = c.args in
-    let few = few_in c.in_ok-grammar.grammar.variables (length a.input.now) a.table a.work c.too_small.ensures (omega arith) (omega arith) in
-    refused_small c.admit.ensures a.table a.work c.in_ok-grammar.was few c.if-too_small.true
+    let l = c.in_ok-grammar.grammar in
+    let few = shorter_few l.variables (length a.input.now) a.table a.work (sym c.if-too_small.true ∙ c.too_small.ensures) (omega arith) (omega arith) in
+    refused_small c.admit.ensures a.table a.work c.in_ok-grammar.was few refl
 
 pub returns-in_err-grammar : goal.returns-in_err-grammar
 returns-in_err-grammar c = refused_first c.admit.ensures c.args.table c.args.work c.in_err-grammar.was (handed_on c.from_residual.ensures.1)
@@ -19,5 +21,6 @@ returns-in_err-grammar c = refused_first c.admit.ensures c.args.table c.args.wor
 pub returns : goal.returns
 returns c =
     let a = c.args in
-    let few = few_in c.in_ok-grammar.grammar.variables (length a.input.now) a.table a.work c.too_small.ensures (omega arith) (omega arith) in
-    admitted_then c.admit.ensures a.table a.work c.in_ok-grammar.was few c.if-too_small.false
+    let l = c.in_ok-grammar.grammar in
+    let enough = longer_enough l.variables (length a.input.now) a.table a.work (sym c.if-too_small.false ∙ c.too_small.ensures) (omega arith) (omega arith) in
+    admitted_then c.admit.ensures a.table a.work c.in_ok-grammar.was enough refl
